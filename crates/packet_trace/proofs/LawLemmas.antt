@@ -1,5 +1,5 @@
 -- Laws of the table.
-use Rattle.std.proofs.Common.{◌≡◌, ℕ, zero, suc, ◌+◌, ◌-◌, ◌≤◌, List, [], ◌∷◌, ◌++◌, length, take, refl, ap, ◌∙◌, arith}
+use Rattle.std.proofs.Common.{◌≡◌, ℕ, zero, suc, ◌+◌, ◌-◌, ◌≤◌, List, [], ◌∷◌, length, take, refl, ap, ◌∙◌, arith}
 use Rattle.std.proofs.Common.{Option, Some, length-append, replicate}
 use Rattle.std.specs.Prelude.{slice_get}
 use Rattle.recovery_world.specs.declared.event.Event.{Event}

@@ -1,5 +1,5 @@
 -- What became of the inputs of a thread, behind one move more.
-use Rattle.std.proofs.Common.{◌≡◌, ◌≢◌, ◌⊎◌, inl, inr, ℕ, zero, suc, ◌+◌, ◌-◌, ◌<◌, List, [], ◌∷◌, ◌++◌, length, take}
+use Rattle.std.proofs.Common.{◌≡◌, ◌≢◌, ◌⊎◌, inl, inr, ℕ, zero, suc, ◌+◌, ◌-◌, List, [], ◌∷◌, ◌++◌, length, take}
 use Rattle.std.proofs.Common.{drop, map, refl, sym, ap, ◌∙◌, subst, arith, Option, Some, None, true, false, get_or}
 use Rattle.std.proofs.Common.{length-append, replicate}
 use Rattle.std.specs.Prelude.{nat_eq, option_to_list, slice_get}
@@ -20,7 +20,7 @@ use Rattle.packet_trace.specs.declared.following.Made.{Made}
 use Rattle.packet_trace.specs.declared.following.Made.TheVariants as made
 use Rattle.packet_trace.specs.declared.rows.Became.{Became}
 use Rattle.packet_trace.specs.declared.rows.Became.TheVariants.{Untaken, InHand}
-use Rattle.packet_trace.specs.Became.{became, reason_at, reason_in, with_end, with_output}
+use Rattle.packet_trace.specs.Became.{became, reason_in, with_end, with_output}
 use Rattle.packet_trace.specs.Following.{ListsInputs, after_made, made_of, with_last}
 
 -- Lists with one element more, or with another last one

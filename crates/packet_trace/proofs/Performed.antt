@@ -1,5 +1,6 @@
 -- Events are performed one by one, and it is noted how the outputs left.
-use Rattle.std.proofs.Common.{◌≡◌, ℕ, ◌+◌, ◌-◌, ◌<◌, ◌≤◌, List, [], ◌∷◌, ◌++◌, length, take, drop, refl, sym, ap, ◌∙◌, subst}
+use Rattle.std.proofs.Common.{◌≡◌, ℕ, ◌+◌, ◌-◌, ◌<◌, ◌≤◌, List, [], ◌∷◌, ◌++◌, length, take, drop, refl, sym, ap, ◌∙◌}
+use Rattle.std.proofs.Common.{subst}
 use Rattle.std.proofs.Common.{add-one, append_assoc, arith, get_or, replicate, suc, zero, Result, Err}
 use Rattle.std.proofs.lemmas.List.{take_all}
 use Rattle.plain_text.specs.declared.limit.Limit.{Limit}

@@ -1,9 +1,10 @@
 -- The places of released outputs, behind one output more.
-use Rattle.std.proofs.Common.{◌≡◌, ◌≢◌, ◌⊎◌, inl, inr, ℕ, zero, suc, ◌+◌, ◌<◌, ◌≤◌, List, [], ◌∷◌, ◌++◌, length, refl, sym}
+use Rattle.std.proofs.Common.{◌≡◌, ◌≢◌, ◌⊎◌, inl, inr, ℕ, zero, suc, ◌+◌, ◌<◌, ◌≤◌, List, [], ◌∷◌, ◌++◌, length, refl}
+use Rattle.std.proofs.Common.{sym}
 use Rattle.std.proofs.Common.{ap, ◌∙◌, subst, arith, cond, Bool, true, false, get_or, set, replicate, take, ◌&&◌}
 use Rattle.std.proofs.Common.{Result, Ok, Err}
 use Rattle.std.proofs.Common.{length-set}
-use Rattle.std.specs.Prelude.{⊤, OnOk, nat_eq, slice_index_or, slice_set}
+use Rattle.std.specs.Prelude.{⊤, OnOk, nat_eq, slice_set}
 use Rattle.std.proofs.lemmas.Bool.Decides.{nat_tests}
 use Rattle.std.proofs.lemmas.List.{get_or-set_same, get_or-set_other, take_more, take_all}
 use Rattle.entry_order.proofs.Order.{is_or}
@@ -52,8 +53,10 @@ no_and false y e = refl
 
 pub none_placed : (threads : ℕ) (lists : List (List ℕ)) → lists ≡ replicate threads [] → HasPlaces threads [] lists
 none_placed threads lists e =
-    subst (HasPlaces threads []) (sym e)
-    (record { count = empty_long ℕ threads; each = λ t j low. ap (λ (l : List ℕ). get_or l j 0) (empty_here ℕ threads t) })
+    subst (HasPlaces threads []) (sym e) (record {
+      count = empty_long ℕ threads;
+      each = λ t j low. ap (λ (l : List ℕ). get_or l j 0) (empty_here ℕ threads t);
+    })
 
 module _ (threads : ℕ) (names : List (ℕ × ℕ)) (name : ℕ × ℕ) (lists : List (List ℕ))
     (h : HasPlaces threads names lists) where

@@ -1,11 +1,12 @@
 -- Rows that were filled from what was noted are those of the definition.
-use Rattle.std.proofs.Common.{◌≡◌, ◌≢◌, ◌⊎◌, inl, inr, ℕ, zero, suc, ◌+◌, ◌<◌, ◌≤◌, List, [], ◌∷◌, length, take, refl, sym, ap}
+use Rattle.std.proofs.Common.{◌≡◌, ◌≢◌, inl, inr, ℕ, zero, suc, ◌+◌, ◌<◌, ◌≤◌, List, [], ◌∷◌, length, take, refl, sym}
+use Rattle.std.proofs.Common.{ap}
 use Rattle.std.proofs.Common.{◌∙◌, subst, arith, cond, Bool, true, false, Option, Some, None, add-one, ◌&&◌}
 use Rattle.std.specs.Prelude.{nat_eq, slice_get, slice_index_or}
 use Rattle.std.proofs.lemmas.Bool.Decides.{nat_tests}
 use Rattle.std.proofs.lemmas.Option.{slice_get_within}
 use Rattle.plain_text.specs.declared.packet.Packet.{Packet}
-use Rattle.input_logger.specs.Inputs.{inputs_of, thread_of}
+use Rattle.input_logger.specs.Inputs.{thread_of}
 use Rattle.line_order.proofs.Hands.{all_taken}
 use Rattle.plain_machine.specs.History.{Step, outputs, sent_of}
 use Rattle.recovery_world.specs.World.{Setting, Sent as SentOutput, World, inputs_fed}
@@ -15,11 +16,10 @@ use Rattle.recovery_laws.specs.Sound.{Sound}
 use Rattle.recovery_laws.proofs.Settlings.{number_high}
 use Rattle.recovery_core.specs.declared.lacking.Lacks.{Lacks}
 use Rattle.recovery_core.specs.declared.lacking.Lacks.TheVariants as lacks
-use Rattle.recovery_core.specs.Lacking.{OutputLacks, WasReleased}
+use Rattle.recovery_core.specs.Lacking.{OutputLacks}
 use Rattle.packet_trace.specs.declared.rows.Became.{Became}
 use Rattle.packet_trace.specs.declared.rows.Became.TheVariants.{Untaken, InHand, Sent, Ended}
 use Rattle.packet_trace.specs.declared.rows.Departure.{Departure}
-use Rattle.packet_trace.specs.declared.rows.Fate.{Fate}
 use Rattle.packet_trace.specs.declared.rows.Fate.TheVariants as fate
 use Rattle.packet_trace.specs.declared.rows.Row.{Row}
 use Rattle.packet_trace.specs.declared.running.Seen.{Seen}
@@ -107,7 +107,8 @@ module _ {V : Type 0} (s : Setting V) (w : World V) (sound : Sound s w) where
     fate_is t low InHand = refl
     fate_is t low (Sent j) =
         let place : place_noted seen.places.items t j ≡ place_in w t j = sees.places.each t j low in
-        subst (λ (p : ℕ). by_place w t j p (fate_at (place_noted seen.places.items t j) (lacks_noted seen.lacks.items t j)))
+        subst
+        (λ (p : ℕ). by_place w t j p (fate_at (place_noted seen.places.items t j) (lacks_noted seen.lacks.items t j)))
         place
         (at_place t j (place_noted seen.places.items t j) (lacks_noted seen.lacks.items t j)
         (λ none. lacking t j (slice_index_or seen.lacks.items t []) (sees.lacks.each t low) (sym place ∙ none)))

@@ -1,15 +1,14 @@
 -- What is seen of a system.
-use Rattle.std.proofs.Common.{◌≡◌, ◌≢◌, ◌⊎◌, inl, inr, ℕ, ◌+◌, ◌<◌, ◌≤◌, List, [], ◌∷◌, ◌++◌, length, refl, sym, ap, ◌∙◌}
+use Rattle.std.proofs.Common.{◌≡◌, ◌≢◌, ◌⊎◌, inl, inr, ℕ, ◌+◌, ◌<◌, List, [], ◌∷◌, ◌++◌, length, refl, sym, ap, ◌∙◌}
 use Rattle.std.proofs.Common.{subst, arith, get_or, Some, None, length-append}
-use Rattle.std.specs.Prelude.{slice_get, slice_index_or}
+use Rattle.std.specs.Prelude.{slice_get}
 use Rattle.input_logger.specs.Inputs.{Fed}
 use Rattle.entry_order.proofs.Order.{is_or}
 use Rattle.plain_machine.specs.Program.{Meaning}
-use Rattle.plain_machine.specs.History.{outputs, sent_of}
-use Rattle.recovery_world.specs.World.{Setting, World}
+use Rattle.recovery_world.specs.World.{World}
 use Rattle.recovery_core.specs.declared.lacking.Lacks.{Lacks}
 use Rattle.recovery_core.specs.Lacking.{OutputLacks}
-use Rattle.recovery_core.specs.Systems.{SystemStands, Systemed}
+use Rattle.recovery_core.specs.Systems.{Systemed}
 use Rattle.packet_trace.specs.Going.{HasLacks, IsSomewhere, ListsLacks}
 use Rattle.packet_trace.proofs.Noted.{snoc_here, snoc_other}
 use Rattle.packet_trace.proofs.SteeringLemmas.{snoc_found}

@@ -1,8 +1,7 @@
 -- A trace is told, and written.
-use Rattle.std.proofs.Common.{◌≡◌, ◌⊎◌, inl, inr, ℕ, ◌+◌, List, [], ◌∷◌, ◌++◌, length, take, refl, sym, ap, ◌∙◌, subst}
-use Rattle.std.proofs.Common.{Option, Some, None, Result, Ok, Err}
+use Rattle.std.proofs.Common.{◌≡◌, inl, inr, ℕ, List, [], ◌∷◌, ◌++◌, take, refl, sym, ap, ◌∙◌, subst}
+use Rattle.std.proofs.Common.{Option, Result, Ok, Err}
 use Rattle.std.specs.Prelude.{⊤, IfOk, IsErrOf, OnOk}
-use Rattle.std.specs.Str.{bytes_eq}
 use Rattle.plain_text.specs.declared.limit.Limit.{Limit}
 use Rattle.plain_text.specs.declared.packet.Packet.{Packet}
 use Rattle.input_logger.specs.Inputs.{Fed, inputs_of}
@@ -10,8 +9,8 @@ use Rattle.plain_machine.specs.Program.{Meaning}
 use Rattle.plain_machine.specs.History.{Step, play}
 use Rattle.world_io.specs.World.{Shown}
 use Rattle.recovery_world.specs.declared.event.Event.{Event}
-use Rattle.recovery_world.specs.World.{Setting, World as SystemWorld, opening}
-use Rattle.recovery_world.specs.Files.{done_line, moves_made, packets_of}
+use Rattle.recovery_world.specs.World.{Setting, opening}
+use Rattle.recovery_world.specs.Files.{done_line, packets_of}
 use Rattle.recovery_laws.proofs.AcceptedRuns.{moves_play}
 use Rattle.event_replies.specs.declared.reply.Stop.{Stop}
 use Rattle.event_replies.specs.declared.reply.Stop.TheVariants as stop
@@ -35,7 +34,7 @@ use Rattle.packet_trace.specs.Filling.{AreFilled}
 use Rattle.packet_trace.specs.Following.{HasBecome}
 use Rattle.packet_trace.specs.Going.{HasAllGone, IsHalted, IsSomewhere}
 use Rattle.packet_trace.specs.Table.{table_text}
-use Rattle.packet_trace.specs.Trace.{HasBegunTrace, HasStopped, HasTraced, Traces, trace_writes, traced_events}
+use Rattle.packet_trace.specs.Trace.{HasBegunTrace, HasStopped, HasTraced, trace_writes, traced_events}
 use Rattle.packet_trace.specs.Tracing.{ComesTo, IsHalt, IsSteered, IsTold, WritesTraced}
 use Rattle.packet_trace.specs.Turns.{AreTurns}
 use Rattle.packet_trace.proofs.Performed.{stands_same}

@@ -1,5 +1,5 @@
 -- A row from what was noted: what became of its input, and where its output stands or what it lacks.
-use Rattle.std.specs.Prelude.{◌≡◌, ℕ, zero, suc, ◌+◌, ◌-◌, List, [], length, Option, Some, None, slice_get, slice_index_or}
+use Rattle.std.specs.Prelude.{◌≡◌, ℕ, zero, suc, ◌+◌, List, [], length, Option, Some, None, slice_get, slice_index_or}
 use Rattle.recovery_core.specs.declared.lacking.Lacks.{Lacks}
 use Rattle.recovery_core.specs.declared.lacking.Lacks.TheVariants as lacks
 use Rattle.packet_trace.specs.declared.rows.Became.{Became}

@@ -21,8 +21,8 @@ left_by departures fate.NoOutput = None
 left_by departures fate.InHand = None
 left_by departures fate.NotTaken = None
 
--- The row of the packet that follows the first i of the capture: the world ends in a run of these steps, and its outputs
--- left so. Reasons stand in this register.
+-- The row of the packet that follows the first i of the capture: the world ends in a run of these steps, and its
+-- outputs left so. Reasons stand in this register.
 pub record IsRow {V : Type 0} (register : Option ℕ) (s : Setting V) (w : World V) (steps : List (Step V))
     (departures : List Departure) (i : ℕ) (row : Row) : Type 0 where
   pub packet : row.packet ≡ i + 1

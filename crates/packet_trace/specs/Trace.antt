@@ -21,8 +21,8 @@ use Rattle.packet_trace.specs.Table.{table_text}
 abbrev pub traced_events : List Event → List Event
 traced_events events = events ++ event.Recover ∷ []
 
--- The events of a trace lead to this world, and these are the rows of what became of each packet. Reasons of drops stand
--- in this register.
+-- The events of a trace lead to this world, and these are the rows of what became of each packet. Reasons of drops
+-- stand in this register.
 pub record Traces {V : Type 0} (register : Option ℕ) (s : Setting V) (events : List Event) (w : SystemWorld V)
     (rows : List Row) : Type 0 where
   pub departures : List Departure

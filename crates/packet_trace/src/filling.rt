@@ -1,6 +1,7 @@
 ghost use Rattle.std.specs.Prelude.{◌≡◌, ◌+◌, [], ℕ, IfOk};
 ghost use Rattle.packet_trace.specs.Fates.{dropped_for as dropped_for_of};
-ghost use Rattle.packet_trace.specs.Filling.{AreFilled, IsFilled, became_noted, fate_at as fate_at_of};
+ghost use Rattle.packet_trace.specs.Filling.{AreFilled, IsFilled, became_noted};
+ghost use Rattle.packet_trace.specs.Filling.{fate_at as fate_at_of};
 ghost use Rattle.packet_trace.specs.Filling.{fate_from, lacks_noted};
 ghost use Rattle.packet_trace.specs.Rows.{left_by};
 

@@ -129,8 +129,8 @@ fn write_traced<W: World>(
 }
 
 /// Traces the packets of a capture through a run: the events of the script are performed, and one recovery more, which
-/// changes nothing where the master is up. Then a table is created under this name, with a line for each packet that was
-/// fed, and the last line of the report of `run` is reported.
+/// changes nothing where the master is up. Then a table is created under this name, with a line for each packet that
+/// was fed, and the last line of the report of `run` is reported.
 ///
 /// `register` is the register in which the box has the reason for which it drops a packet, when it ends it; none where
 /// the box drops nothing for a reason. Where an event would pass a limit, nothing is created or written.

@@ -1,4 +1,4 @@
-use Rattle.std.proofs.Common.{rules, ◌≡◌, ◌+◌, ◌<◌, ◌∙◌, [], ℕ, List, arith, ap, sym, subst, length, None, Ok, replicate}
+use Rattle.std.proofs.Common.{rules, ◌≡◌, ◌<◌, ◌∙◌, [], ℕ, arith, ap, subst, length, None, Ok, replicate}
 use Rattle.std.specs.Prelude.{slice_index_or, slice_set}
 use Rattle.input_logger.specs.Inputs.{input_at}
 use Rattle.plain_machine.specs.declared.plain_move.PlainMove.{PlainMove}

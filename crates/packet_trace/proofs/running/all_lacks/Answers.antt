@@ -1,4 +1,4 @@
-use Rattle.std.proofs.Common.{◌≡◌, ◌+◌, [], List, subst, sym, refl, arith, rules, ◌∙◌}
+use Rattle.std.proofs.Common.{◌≡◌, ◌+◌, List, subst, sym, arith}
 use Rattle.recovery_core.specs.declared.lacking.Lacks.{Lacks}
 use Rattle.packet_trace.specs.Going.{HasLacks}
 use Rattle.packet_trace.proofs.SeenLemmas.{lists_on, no_lists}

@@ -1,4 +1,4 @@
-use Rattle.std.proofs.Common.{◌≡◌, ◌∙◌, ap, sym, refl, rules, Err}
+use Rattle.std.proofs.Common.{◌≡◌, ap, sym, refl, rules, Err}
 use Rattle.packet_trace.proofs.Performed.{gone_same, none_gone, same_stop, somewhere_same}
 use Rattle.packet_trace.proofs.running.go.Goals as goal
 

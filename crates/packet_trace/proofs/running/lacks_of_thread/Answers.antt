@@ -1,4 +1,4 @@
-use Rattle.std.proofs.Common.{◌≡◌, ◌+◌, ◌++◌, ◌∷◌, [], List, length, ap, sym, subst, arith, rules, ◌∙◌, length-append}
+use Rattle.std.proofs.Common.{◌≡◌, ◌+◌, ◌∷◌, [], List, length, ap, sym, subst, arith, ◌∙◌, length-append}
 use Rattle.recovery_core.specs.declared.lacking.Lacks.{Lacks}
 use Rattle.packet_trace.proofs.SeenLemmas.{AreLacks, lacks_on, none_lacking}
 use Rattle.packet_trace.proofs.running.lacks_of_thread.Goals as goal

@@ -1,4 +1,4 @@
-use Rattle.std.proofs.Common.{◌≡◌, ◌∙◌, ap, sym, refl, rules, subst, Err, ℕ}
+use Rattle.std.proofs.Common.{sym, refl, subst, ℕ}
 use Rattle.event_replies.specs.declared.reply.Stop.TheVariants as stop
 use Rattle.packet_trace.specs.Going.{HasSeen}
 use Rattle.packet_trace.proofs.Performed.{same_stop}

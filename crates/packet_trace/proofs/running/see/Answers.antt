@@ -1,4 +1,4 @@
-use Rattle.std.proofs.Common.{◌∙◌, List, ℕ, subst, sym, refl}
+use Rattle.std.proofs.Common.{◌∙◌, List, ℕ, subst}
 use Rattle.packet_trace.specs.Places.{HasPlaces}
 use Rattle.packet_trace.proofs.running.see.Goals as goal
 

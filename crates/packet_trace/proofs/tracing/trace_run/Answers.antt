@@ -16,8 +16,8 @@ run_events-requires-clause-somewhere g c κs within =
     (setting_of (g.P.Program.meaning c.args.program.now) c.args.run) c.in_ok-system.system
     c.in_ok-system.ensures.program c.in_ok-system.ensures.stands
 
-pub returns-in-Ok : goal.returns-in-Ok
-returns-in-Ok g c =
+pub returns-in_ok-texts-in-Ok : goal.returns-in_ok-texts-in-Ok
+returns-in_ok-texts-in-Ok g c =
     let s = setting_of (g.P.Program.meaning c.args.program.now) c.args.run in
     c.in_ok-texts-in-Ok.ensures s c.args.run.events refl
     (steered_so s c.in_ok-packets.packets c.in_ok-steered.steered (c.in_ok-packets.ensures ∙ c.as_slice.ensures)
