@@ -1,0 +1,10 @@
+pub mod Noted
+pub mod Followed
+pub mod PlacesLemmas
+pub mod SteeringLemmas
+pub mod FillingLemmas
+pub mod RowLemmas
+pub mod Performed
+pub mod SeenLemmas
+pub mod TracingLemmas
+pub mod LawLemmas

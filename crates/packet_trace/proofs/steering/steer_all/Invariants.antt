@@ -1,0 +1,10 @@
+use Rattle.std.proofs.Common.{◌≡◌}
+use Rattle.packet_trace.specs.Turns.{AreTurns}
+use Rattle.packet_trace.proofs.steering.steer_all.Given as goal
+
+-- the packets so far were steered
+abbrev pub invariant-loop-packet : goal.invariant-loop-packet
+invariant-loop-packet l = record {
+  inputs : l.inputs ≡ record { threads = l.threads; packets = l.yielded };
+  turns : AreTurns l.threads l.yielded l.turns;
+}

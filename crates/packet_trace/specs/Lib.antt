@@ -1,0 +1,12 @@
+pub mod Became
+pub mod Departures
+pub mod Fates
+pub mod Rows
+pub mod Table
+pub mod Trace
+pub mod Following
+pub mod Places
+pub mod Going
+pub mod Filling
+pub mod Tracing
+pub mod Turns

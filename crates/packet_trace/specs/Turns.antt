@@ -1,0 +1,18 @@
+-- How the packets of a capture are steered: for each its thread, and which input of the thread it is.
+use Rattle.std.specs.Prelude.{◌≡◌, ℕ, ◌+◌, ◌<◌, List, length, take, Some, slice_get}
+use Rattle.plain_text.specs.declared.packet.Packet.{Packet}
+use Rattle.input_logger.specs.Inputs.{inputs_of, thread_of}
+
+-- what is noted of a packet that follows the first i: its thread, and its number among the inputs of the thread
+abbrev pub turn_of : ℕ → List Packet → ℕ → Packet → ℕ × ℕ
+turn_of threads packets i packet = (
+  thread_of packet threads,
+  length (inputs_of (record { threads = threads; packets = take i packets }) (thread_of packet threads)) + 1,
+)
+
+-- It is noted of each packet.
+pub record AreTurns (threads : ℕ) (packets : List Packet) (turns : List (ℕ × ℕ)) : Type 0 where
+  pub long : length turns ≡ length packets
+  pub each : (i : ℕ) (packet : Packet) → slice_get packets i ≡ Some packet
+      → slice_get turns i ≡ Some (turn_of threads packets i packet)
+  pub below : (i : ℕ) (turn : ℕ × ℕ) → slice_get turns i ≡ Some turn → turn.0 < threads

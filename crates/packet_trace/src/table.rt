@@ -1,0 +1,99 @@
+ghost use Rattle.std.specs.Prelude.{◌≡◌, ◌++◌, IfOk, OnOk, decimal};
+ghost use Rattle.drill_report.specs.Report.{reason_word};
+ghost use Rattle.packet_trace.specs.Table.{fate_words, left_words, row_line, tab, table_text};
+
+use crate::rows::{Departure, Fate, Row};
+use plain_text::{Bytes, NoMemory, put_u64};
+use std::alloc::Global;
+
+/// Appends a number and a tab.
+fn put_column(out: &mut Bytes, number: u64) -> Result<(), NoMemory>
+    ensures { OnOk result (out.new ≡ out.old ++ decimal number ++ tab) }
+{
+    put_u64(out, number)?;
+    out.push(b'\t')
+}
+
+/// Appends a word and a number.
+fn put_word(out: &mut Bytes, word: &[u8], number: u64) -> Result<(), NoMemory>
+    ensures { OnOk result (out.new ≡ out.old ++ word.now ++ decimal number) }
+{
+    out.extend(word)?;
+    put_u64(out, number)
+}
+
+/// Appends the word for a reason of drops, by its digit.
+fn put_reason(out: &mut Bytes, digit: u8) -> Result<(), NoMemory>
+    ensures { OnOk result (out.new ≡ out.old ++ reason_word digit) }
+{
+    match digit {
+        b'1' => out.extend(b"short"),
+        b'2' => out.extend(b"not IPv4"),
+        b'3' => out.extend(b"bad header length"),
+        b'4' => out.extend(b"fragment"),
+        b'5' => out.extend(b"other protocol"),
+        b'6' => out.extend(b"bad total length"),
+        b'7' => out.extend(b"no mapping"),
+        b'8' => out.extend(b"no free port"),
+        b'9' => out.extend(b"stray"),
+        _ => out.push(digit),
+    }
+}
+
+/// Appends the columns `epoch` and `event`.
+fn put_left(out: &mut Bytes, left: Option<Departure>) -> Result<(), NoMemory>
+    ensures { OnOk result (out.new ≡ out.old ++ left_words left) }
+{
+    match left {
+        None => out.extend(b"-\t-"),
+        Some(left) => {
+            put_column(out, u64::from(left.epoch))?;
+            put_u64(out, left.event)
+        }
+    }
+}
+
+/// Appends the column `fate`.
+fn put_fate(out: &mut Bytes, fate: Fate) -> Result<(), NoMemory>
+    ensures { OnOk result (out.new ≡ out.old ++ fate_words fate) }
+{
+    match fate {
+        Fate::Released(place) => put_word(out, b"released ", place),
+        Fate::Waiting { thread, number } => {
+            put_word(out, b"waiting ", u64::from(thread))?;
+            put_word(out, b" ", number)
+        }
+        Fate::UnderWay => out.extend(b"under way"),
+        Fate::Dropped(digit) => {
+            out.extend(b"dropped ")?;
+            put_reason(out, digit)
+        }
+        Fate::NoOutput => out.extend(b"no output"),
+        Fate::InHand => out.extend(b"in hand"),
+        Fate::NotTaken => out.extend(b"not taken"),
+    }
+}
+
+/// Appends the line of a row.
+fn put_row(out: &mut Bytes, row: &Row) -> Result<(), NoMemory>
+    ensures { OnOk result (out.new ≡ out.old ++ row_line row.now) }
+{
+    put_column(out, row.packet)?;
+    put_column(out, u64::from(row.thread))?;
+    put_column(out, row.input)?;
+    put_left(out, row.left)?;
+    out.push(b'\t')?;
+    put_fate(out, row.fate)?;
+    out.push(b'\n')
+}
+
+/// The text of a table: a heading, and the line of each row.
+pub fn put_table(alloc: Global, rows: &[Row]) -> Result<Bytes, NoMemory>
+    ensures { IfOk result (λ text. text ≡ table_text rows.now) }
+{
+    let mut text = Bytes::of(alloc, b"packet\tthread\tinput\tepoch\tevent\tfate\n")?;
+    for row in rows {
+        put_row(&mut text, row)?;
+    }
+    Ok(text)
+}
