@@ -40,13 +40,13 @@ pub(crate) fn line_start(words: &[Text]) -> usize {
     }
 }
 
-/// Whether the command has inputs and outputs: three inputs, and outputs behind them.
+/// Whether the command has inputs and outputs, and its outputs stand from the fourth word behind it on.
 fn has_outputs(line: &[Text]) -> bool {
     let Some(command) = line.first() else {
         return false;
     };
     match command.as_str() {
-        "run" => line.len() == 6,
+        "run" | "drill" => line.len() == 6,
         "live" => line.len() == 7,
         "play" => line.len() == 5,
         _ => false,
@@ -61,18 +61,27 @@ pub(crate) fn count_inputs(line: &[Text]) -> usize {
     match command.as_str() {
         "run" | "live" | "play" => 3,
         "check" => 4,
+        "drill" => 2,
         "watch" => 1,
         _ => 0,
     }
 }
 
-/// Whether the word at this place is the name of a file.
+/// Whether the word at this place is the name of a file, or the number of a drill.
 fn is_name(start: usize, place: usize) -> bool {
     if place < start {
         place % 2 == 1
     } else {
         place > start
     }
+}
+
+/// Whether the word at this place is the number of a drill.
+fn is_number(words: &[Text], start: usize, place: usize) -> bool {
+    let Some(command) = words.get(start) else {
+        return false;
+    };
+    command.as_str() == "drill" && place == start.saturating_add(3)
 }
 
 /// Whether it is the name of a file that is to be written.
@@ -92,7 +101,10 @@ fn same_file<R: AllocGlobal + Files>(
 {
     let file = Place::of(rt, &words[written]);
     for other in 0..words.len() {
-        if other != written && is_name(start, other) && file.is_that_of(rt, &words[other]) {
+        if other == written || !is_name(start, other) || is_number(words, start, other) {
+            continue;
+        }
+        if file.is_that_of(rt, &words[other]) {
             return Some(other);
         }
     }

@@ -31,6 +31,17 @@ RELEASED and SCHEDULE.
             `store`, `crash`, `recover`, `settle`
   SCRIPT    text of the events that happened, written
 
+ftmb drill BOX CAPTURE EVERY RELEASED SCHEDULE
+
+Runs the box with a crash behind each EVERY packets, and once more without
+crashes, and reports what became of the packets, and whether the same left.
+
+  EVERY     number from 1: so many packets come in, a snapshot is stored, the
+            master crashes and recovers, as often as there are packets for;
+            then all is settled
+  RELEASED  capture of the packets that were released, written
+  SCHEDULE  text of the moves of the run in which it ends, written
+
 ftmb tap NAME .. run BOX CAPTURE SCRIPT RELEASED SCHEDULE
 ftmb tap NAME .. live BOX CAPTURE PLAN RELEASED SCHEDULE SCRIPT
 

@@ -1,3 +1,4 @@
 pub mod Differences
 pub mod Repeating
 pub mod Settled
+pub mod Rounds

@@ -12,5 +12,5 @@ mod reporting;
 pub use comparing::first_difference;
 pub use copying::copy_packets;
 pub use events::{Events, calm_events, drill_events};
-pub use laws::what_was_all_released_waits_for_nothing;
+pub use laws::{rounds_are_the_fewest_that_feed_all, what_was_all_released_waits_for_nothing};
 pub use reporting::{Facts, put_report};

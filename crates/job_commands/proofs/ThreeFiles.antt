@@ -36,17 +36,50 @@ module _ (healthy : Type 0) (box_file capture_file : List ℕ) (shown : Shown) w
     two_refused s (inr (conf, box, inl h)) = inr (conf, box, inl h)
     two_refused s (inr (conf, box, inr (capture, captured, h))) = absurd h
 
+    -- both are accepted, and what stands behind decides
+    pub two_accepted : (conf : BoxConf) (capture : Capture) (s : Status) → AcceptsBox box_file conf shown
+        → AcceptsCapture capture_file capture shown → behind conf capture s
+        → JudgesTwo healthy box_file capture_file behind s shown
+    two_accepted conf capture s box captured h = inr (conf, box, inr (capture, captured, h))
+
+    abbrev AfterBox : BoxConf → Status → Type 0
+    AfterBox conf = InTurn (λ r. JudgesCapture healthy capture_file r shown) of_capture_error (behind conf)
+
+    -- they decide one status
+    pub two_one : ((conf : BoxConf) (capture : Capture) (s r : Status) → IsDecided healthy s → IsDecided healthy r
+        → behind conf capture s → behind conf capture r → s ≡ r) → (s r : Status) → IsDecided healthy s
+        → IsDecided healthy r → JudgesTwo healthy box_file capture_file behind s shown
+        → JudgesTwo healthy box_file capture_file behind r shown → s ≡ r
+    two_one next =
+        one_in_turn healthy (λ r. JudgesBox healthy box_file r shown) of_box_error AfterBox
+        (one_answer SaysBox one_box healthy box_file shown) (box_decides healthy)
+        (λ conf. one_in_turn healthy (λ r. JudgesCapture healthy capture_file r shown) of_capture_error (behind conf)
+        (one_answer SaysCapture one_capture healthy capture_file shown) (capture_decides healthy) (next conf))
+
+    -- In a healthy world, where they are accepted, what stands behind decides, unless memory ran out.
+    pub two_pass : healthy → (conf : BoxConf) (capture : Capture) → AcceptsBox box_file conf shown
+        → AcceptsCapture capture_file capture shown → (s : Status)
+        → JudgesTwo healthy box_file capture_file behind s shown → (s ≡ status.NoMemory) ⊎ behind conf capture s
+    two_pass ok conf capture box captured s h = second (first h)
+      where
+        first : JudgesTwo healthy box_file capture_file behind s shown → (s ≡ status.NoMemory) ⊎ AfterBox conf s
+        first = passes healthy (λ r. JudgesBox healthy box_file r shown) of_box_error AfterBox
+            (one_answer SaysBox one_box healthy box_file shown) ok conf box s
+
+        second : (s ≡ status.NoMemory) ⊎ AfterBox conf s → (s ≡ status.NoMemory) ⊎ behind conf capture s
+        second (inl q) = inl q
+        second (inr h) =
+            passes healthy (λ r. JudgesCapture healthy capture_file r shown) of_capture_error (behind conf)
+            (one_answer SaysCapture one_capture healthy capture_file shown) ok capture captured s h
+
 module _ {A F : Type 0} (healthy : Type 0) (box_file capture_file : List ℕ) (shown : Shown) (third : Third A F)
     (behind : BoxConf → Capture → A → Status → Type 0) where
   abbrev Judged : Status → Type 0
   Judged s = JudgesFiles healthy box_file capture_file third behind s shown
 
-  -- what is judged behind the box file, and behind the capture
+  -- what is judged behind the capture
   abbrev BehindCapture : BoxConf → Capture → Status → Type 0
   BehindCapture conf capture = InTurn third.judged third.status_of (behind conf capture)
-
-  abbrev BehindBox : BoxConf → Status → Type 0
-  BehindBox conf = InTurn (λ r. JudgesCapture healthy capture_file r shown) of_capture_error (BehindCapture conf)
 
   pub first_refused : (s : Status)
       → JudgesTwo healthy box_file capture_file (λ conf capture other. ⊥) s shown → Judged s
@@ -75,29 +108,17 @@ module _ {A F : Type 0} (healthy : Type 0) (box_file capture_file : List ℕ) (s
         → behind conf capture value s → behind conf capture value r → s ≡ r)
         → (s r : Status) → IsDecided healthy s → IsDecided healthy r → Judged s → Judged r → s ≡ r
     one_status decides next =
-        one_in_turn healthy (λ r. JudgesBox healthy box_file r shown) of_box_error BehindBox
-        (one_answer SaysBox one_box healthy box_file shown) (box_decides healthy)
-        (λ conf. one_in_turn healthy (λ r. JudgesCapture healthy capture_file r shown) of_capture_error
-        (BehindCapture conf) (one_answer SaysCapture one_capture healthy capture_file shown) (capture_decides healthy)
-        (λ capture. one_in_turn healthy third.judged third.status_of (behind conf capture) one decides
-        (next conf capture)))
+        two_one healthy box_file capture_file shown BehindCapture
+        (λ conf capture. one_in_turn healthy third.judged third.status_of (behind conf capture) one decides
+        (next conf capture))
 
     -- In a healthy world, where they are accepted, what stands behind decides, unless memory ran out.
     pub all_pass : healthy → (third.status_of error.NoMemory ≡ status.NoMemory) → (conf : BoxConf) (capture : Capture)
         (value : A) → AcceptsBox box_file conf shown → AcceptsCapture capture_file capture shown
         → third.judged (Ok value) → (s : Status) → Judged s → (s ≡ status.NoMemory) ⊎ behind conf capture value s
-    all_pass ok memory conf capture value box captured there s h = last (second (first h))
+    all_pass ok memory conf capture value box captured there s h =
+        last (two_pass healthy box_file capture_file shown BehindCapture ok conf capture box captured s h)
       where
-        first : Judged s → (s ≡ status.NoMemory) ⊎ BehindBox conf s
-        first = passes healthy (λ r. JudgesBox healthy box_file r shown) of_box_error BehindBox
-            (one_answer SaysBox one_box healthy box_file shown) ok conf box s
-
-        second : (s ≡ status.NoMemory) ⊎ BehindBox conf s → (s ≡ status.NoMemory) ⊎ BehindCapture conf capture s
-        second (inl q) = inl q
-        second (inr h) =
-            passes healthy (λ r. JudgesCapture healthy capture_file r shown) of_capture_error (BehindCapture conf)
-            (one_answer SaysCapture one_capture healthy capture_file shown) ok capture captured s h
-
         end : (s ≡ third.status_of error.NoMemory) ⊎ behind conf capture value s
             → (s ≡ status.NoMemory) ⊎ behind conf capture value s
         end (inl q) = inl (q ∙ memory)

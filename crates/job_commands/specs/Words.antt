@@ -10,6 +10,7 @@ use Rattle.job_commands.specs.declared.make_words.MakeWords.{MakeWords}
 use Rattle.job_commands.specs.declared.schedule_words.ScheduleFiles.{ScheduleFiles}
 use Rattle.job_commands.specs.declared.schedule_words.PlayWords.{PlayWords}
 use Rattle.job_commands.specs.declared.schedule_words.CheckWords.{CheckWords}
+use Rattle.job_commands.specs.declared.drill_words.DrillWords.{DrillWords}
 use Rattle.job_commands.specs.declared.command.Command as command_words
 use Rattle.job_commands.specs.declared.command.Command.TheVariants as words
 
@@ -171,6 +172,48 @@ check_names (command ∷ box_file ∷ capture ∷ schedule ∷ released ∷ []) 
     else None
 check_names (a ∷ b ∷ c ∷ d ∷ e ∷ f ∷ more) = None
 
+-- the names of the files of a drill, and how many packets come in before each crash
+pub record DrillNames : Type 0 where
+  pub box_file : List ℕ
+  pub capture : List ℕ
+  pub every : ℕ
+  pub released : List ℕ
+  pub schedule : List ℕ
+
+abbrev pub drill_names_of : DrillWords → DrillNames
+drill_names_of w = record {
+  box_file = w.box_file.now;
+  capture = w.capture.now;
+  every = w.every;
+  released = w.released.now;
+  schedule = w.schedule.now;
+}
+
+-- these names, with a number from 1
+abbrev pub of_every : Option ℕ → (ℕ → DrillNames) → Option DrillNames
+of_every None names = None
+of_every (Some every) names = if nat_le 1 every then Some (names every) else None
+
+-- `drill` with two names, a number from 1, and the names of two outputs, which differ
+abbrev pub drill_names : List (List ℕ) → Option DrillNames
+drill_names [] = None
+drill_names (a ∷ []) = None
+drill_names (a ∷ b ∷ []) = None
+drill_names (a ∷ b ∷ c ∷ []) = None
+drill_names (a ∷ b ∷ c ∷ d ∷ []) = None
+drill_names (a ∷ b ∷ c ∷ d ∷ e ∷ []) = None
+drill_names (command ∷ box_file ∷ capture ∷ every ∷ released ∷ schedule ∷ []) =
+    if bytes_eq command (codes "drill") && not (bytes_eq released schedule)
+    then of_every (number_of every) (λ n. record {
+      box_file = box_file;
+      capture = capture;
+      every = n;
+      released = released;
+      schedule = schedule;
+    })
+    else None
+drill_names (a ∷ b ∷ c ∷ d ∷ e ∷ f ∷ g ∷ more) = None
+
 -- a command, with what its words name
 pub data Asked : Type 0 where
   Runs : RunNames → Asked
@@ -178,21 +221,24 @@ pub data Asked : Type 0 where
   Makes : MakeNames → Asked
   Plays : PlayNames → Asked
   Checks : CheckNames → Asked
+  Drills : DrillNames → Asked
 
 -- the one command whose names are there; no words are those of two
 abbrev pub one_of : Option RunNames → Option LiveNames → Option MakeNames → Option PlayNames → Option CheckNames
-    → Option Asked
-one_of (Some names) live make play check = Some (Runs names)
-one_of None (Some names) make play check = Some (Lives names)
-one_of None None (Some names) play check = Some (Makes names)
-one_of None None None (Some names) check = Some (Plays names)
-one_of None None None None (Some names) = Some (Checks names)
-one_of None None None None None = None
+    → Option DrillNames → Option Asked
+one_of (Some names) live make play check drill = Some (Runs names)
+one_of None (Some names) make play check drill = Some (Lives names)
+one_of None None (Some names) play check drill = Some (Makes names)
+one_of None None None (Some names) check drill = Some (Plays names)
+one_of None None None None (Some names) drill = Some (Checks names)
+one_of None None None None None (Some names) = Some (Drills names)
+one_of None None None None None None = None
 
--- the command that words ask for: `run`, `live`, `make`, `play` or `check`
+-- the command that words ask for: `run`, `live`, `make`, `play`, `check` or `drill`
 abbrev pub asked : List (List ℕ) → Option Asked
 asked words =
     one_of (run_names words) (live_names words) (make_names words) (play_names words) (check_names words)
+    (drill_names words)
 
 -- where the words ask for a command, this is so of it
 abbrev pub IfAsks : List (List ℕ) → (Asked → Type 0) → Type 0
@@ -204,6 +250,7 @@ asked_of (words.Live w) = Lives (live_names_of w)
 asked_of (words.Make w) = Makes (made_of w)
 asked_of (words.Play w) = Plays (play_names_of w)
 asked_of (words.Check w) = Checks (check_names_of w)
+asked_of (words.Drill w) = Drills (drill_names_of w)
 
 -- The names of the input files of a command, in the order of its words, which is the order in which they are read
 
@@ -219,6 +266,9 @@ schedule_inputs names = names.box_file ∷ names.capture ∷ names.schedule ∷ 
 abbrev pub check_inputs : CheckNames → List (List ℕ)
 check_inputs names = schedule_inputs names.files ++ names.released ∷ []
 
+abbrev pub drill_inputs : DrillNames → List (List ℕ)
+drill_inputs names = names.box_file ∷ names.capture ∷ []
+
 -- `make` has none
 abbrev pub inputs_of : Asked → List (List ℕ)
 inputs_of (Runs names) = run_inputs names
@@ -226,3 +276,4 @@ inputs_of (Lives names) = live_inputs names
 inputs_of (Makes names) = []
 inputs_of (Plays names) = schedule_inputs names.files
 inputs_of (Checks names) = check_inputs names
+inputs_of (Drills names) = drill_inputs names

@@ -2,8 +2,8 @@ ghost use Rattle.std.specs.Prelude.{◌≡◌, MatchOption, None, Some};
 ghost use Rattle.job_commands.specs.Words.{asked, asked_of};
 
 use crate::{
-    CheckWords, LiveWords, MakeWords, PlayWords, RunWords, read_check_words, read_live_words,
-    read_make_words, read_play_words, read_run_words,
+    CheckWords, DrillWords, LiveWords, MakeWords, PlayWords, RunWords, read_check_words,
+    read_drill_words, read_live_words, read_make_words, read_play_words, read_run_words,
 };
 use plain_text::Text;
 
@@ -15,6 +15,7 @@ pub enum Command<'a> {
     Make(MakeWords<'a>),
     Play(PlayWords<'a>),
     Check(CheckWords<'a>),
+    Drill(DrillWords<'a>),
 }
 
 /// The command that the words ask for. None where they are no command's.
@@ -34,6 +35,9 @@ pub fn read_command(words: &[Text]) -> Option<Command<'_>>
     if let Some(names) = read_play_words(words) {
         return Some(Command::Play(names));
     }
-    let names = read_check_words(words)?;
-    Some(Command::Check(names))
+    if let Some(names) = read_check_words(words) {
+        return Some(Command::Check(names));
+    }
+    let names = read_drill_words(words)?;
+    Some(Command::Drill(names))
 }

@@ -14,7 +14,7 @@ use plain_text::Text;
 use std::alloc::Global;
 use world_io::World;
 
-/// The inputs that each command of a box reads first, which were accepted.
+/// The inputs that each command of a box reads first, which were accepted. `drill` has no other.
 #[derive(Drop)]
 pub struct FirstInputs {
     pub conf: BoxConf,
@@ -22,7 +22,7 @@ pub struct FirstInputs {
 }
 
 /// Reads and judges the box file, and then the capture.
-pub(crate) fn read_first_inputs<W: World>(
+pub fn read_first_inputs<W: World>(
     alloc: Global,
     world: &mut W,
     box_file: &Text,

@@ -1,9 +1,10 @@
 //! The commands of FTMB beside the top call: their words and statuses, `make`, `play` and `check`, the inputs of `run`,
-//! and the laws.
+//! `live` and `drill`, and the laws.
 #![tactic(auto)]
 
 mod checking;
 mod command;
+mod drill_words;
 mod first_inputs;
 mod inputs;
 mod laws;
@@ -20,6 +21,8 @@ mod text;
 
 pub use checking::check_released;
 pub use command::{Command, read_command};
+pub use drill_words::{DrillWords, read_drill_words};
+pub use first_inputs::{FirstInputs, read_first_inputs};
 pub use inputs::{Inputs, read_inputs};
 pub use laws::{
     inputs_are_of_bytes, one_verdict, pcapng_captures_are_savefiles, what_refused_inputs_say,

@@ -1,5 +1,5 @@
 -- What a run that is done promises, of the files that it leaves.
-use Rattle.std.specs.Prelude.{◌≡◌, ℕ, List, ◌++◌, Some, Ok}
+use Rattle.std.specs.Prelude.{◌≡◌, ℕ, List, ◌++◌, Some, Ok, length}
 use Rattle.pcap_io.specs.Capture.{written}
 use Rattle.entry_order.specs.Log.{Entry}
 use Rattle.entry_order.specs.Closed.{IsFirstMissing}
@@ -17,11 +17,15 @@ use Rattle.run_writes.specs.Run.{OutputNames}
 use Rattle.script_text.specs.Scripts.{script_text}
 use Rattle.plan_script.specs.Orders.{no_orders}
 use Rattle.plan_script.specs.Scripts.{IsScript}
+use Rattle.drill_report.specs.Events.{drill_events}
+use Rattle.job_commands.specs.declared.first_inputs.FirstInputs.{FirstInputs}
 use Rattle.job_commands.specs.declared.inputs.Inputs.{Inputs}
 use Rattle.job_commands.specs.declared.live_inputs.LiveInputs.{LiveInputs}
 use Rattle.job_commands.specs.Live.{AcceptsLiveInputs}
 use Rattle.job_commands.specs.Run.{AcceptsInputs, outputs_of, setting_for}
-use Rattle.job_commands.specs.Words.{RunNames, LiveNames, Asked, Runs, Lives, Makes, Plays, Checks}
+use Rattle.job_commands.specs.Words.{RunNames, LiveNames, DrillNames, Asked, Runs, Lives, Makes, Plays}
+use Rattle.job_commands.specs.Words.{Checks, Drills}
+use Rattle.job_top.specs.Drill.{AcceptsDrillInputs, drill_outputs, drill_setting}
 use Rattle.job_top.specs.Live.{live_outputs, live_setting}
 
 -- The written schedule, played by the plain machine on the captured packets, is a legal crash-free run. It performs
@@ -64,9 +68,18 @@ pub record KeepsLivePromise (names : LiveNames) (old new : Shown) : Type 0 where
   pub script_written : new.names names.script ≡ Some (script_text events)
   pub keeps : KeepsPromise (live_setting inputs) (live_outputs names).outputs events new
 
+-- The promise of `drill`, for its events: snapshots, crashes and recoveries, and then all is settled.
+pub record KeepsDrillPromise (names : DrillNames) (old new : Shown) : Type 0 where
+  pub inputs : FirstInputs
+  pub accepted : AcceptsDrillInputs names inputs old
+  pub keeps :
+      KeepsPromise (drill_setting names inputs) (drill_outputs names)
+      (drill_events names.every (length inputs.capture.packets)) new
+
 abbrev pub KeepsPromiseOf : Asked → Shown → Shown → Type 0
 KeepsPromiseOf (Runs names) old new = KeepsRunPromise names old new
 KeepsPromiseOf (Lives names) old new = KeepsLivePromise names old new
 KeepsPromiseOf (Makes names) old new = Unit {0}
 KeepsPromiseOf (Plays names) old new = Unit {0}
 KeepsPromiseOf (Checks names) old new = Unit {0}
+KeepsPromiseOf (Drills names) old new = KeepsDrillPromise names old new

@@ -17,6 +17,7 @@ ghost use Rattle.job_commands.specs.Words.{asked, IfAsks, inputs_of, live_names}
 ghost use Rattle.job_commands.specs.Words.{names_of, run_inputs};
 ghost use Rattle.world_io.specs.World.{Start, WritingFailed};
 
+use crate::drill::drill;
 use crate::live::live;
 use box_conf::BoxKind;
 use job_commands::{
@@ -173,6 +174,7 @@ pub fn serial<W: World>(alloc: Global, words: &[Text], world: &mut W) -> Status
         Some(Command::Make(words)) => outcome(make_capture(alloc, world, words)),
         Some(Command::Play(names)) => play_capture(alloc, world, names),
         Some(Command::Check(names)) => check_released(alloc, world, names),
+        Some(Command::Drill(names)) => drill(alloc, world, names),
         Some(Command::Live(_)) => unreachable!(),
         None => Status::BadWords,
     }
@@ -205,6 +207,12 @@ pub fn serial<W: World>(alloc: Global, words: &[Text], world: &mut W) -> Status
 /// `check BOX CAPTURE SCHEDULE RELEASED`, four names of inputs: is the schedule legal, and has each packet of the
 /// capture RELEASED an emission of its own in it? Then the report says how many packets were found. Else it is refuted:
 /// by the first illegal move, or else by the first such packet.
+///
+/// `drill BOX CAPTURE EVERY RELEASED SCHEDULE`, two names of inputs, a number from 1, and two names of outputs, which
+/// differ: the box is run on the capture as by the script `flow EVERY`, `snap`, `store`, `crash`, `recover`, as often
+/// as there are packets for, and `settle`. RELEASED and SCHEDULE are those that `run` leaves for it. The report says
+/// what became of the packets, what the crashes cost, and whether the same packets left as in a run beside it without
+/// crashes. The outputs are created when both runs are done.
 ///
 /// What the clauses say of bytes they say by each beginning, the bytes that stood under each name then, for which the
 /// world's answers were honest: those of files with these bytes.

@@ -6,7 +6,7 @@ ghost use Rattle.plain_text.specs.declared.packet.Packet as packet_of;
 ghost use Rattle.entry_order.specs.Log.{entries};
 ghost use Rattle.plain_machine.specs.History.{log_of, sent_of, outputs, thread_after};
 ghost use Rattle.recovery_world.specs.World.{Setting, World, opening};
-ghost use Rattle.recovery_world.specs.Files.{packets_of};
+ghost use Rattle.recovery_world.specs.Files.{packets_of, sent_names};
 ghost use Rattle.run_end.specs.Ending.{EndsIn};
 ghost use Rattle.system_parts.specs.SystemStanding.{StandsFor, StandsForSome};
 ghost use Rattle.system_parts.specs.Performing.{Appends, MovesOn, StopsAt, Releasing, packets_in};
@@ -17,7 +17,7 @@ ghost use Rattle.system_parts.specs.Performing.{IsStopped};
 use access_log::Outputs;
 use box_program::Program;
 use crash_recovery::wake;
-use event_replies::{Finished, Reply, Stop, only};
+use event_replies::{Finished, Releases, Reply, Stop, only};
 use master_core::Counts;
 use plain_machine::Schedule;
 use plain_text::{NoMemory, Packets, Unit};
@@ -182,6 +182,14 @@ impl<P: Program> System<P> {
     {
         self.handed = self.core.released.len();
         mem::replace(&mut self.fresh, Outputs::new(self.core.alloc))
+    }
+
+    /// The thread and number of each output that was released, in order of release.
+    pub fn released(&self) -> &Releases
+        ensures { (w : World P.Value) → HasReleased w self.now
+            → result.now ≡ sent_names w.released }
+    {
+        &self.core.released
     }
 
     /// Whether the master is up: it is down from a crash to the next recovery.

@@ -283,7 +283,8 @@ const FED_AND_MOVED: [&str; 17] = [
     "step 0\n",
 ];
 
-/// The least number of these events, none to all, behind which such a crash does not leave both packets from port 39278.
+/// The least number of these events, from none to all, behind which such a crash does not leave both packets from port
+/// 39278.
 fn first_wrong_in_replay(alloc: Global) -> Result<Option<usize>, NoMemory> {
     for place in 0..FED_AND_MOVED.len() + 1 {
         let mut script = events_of(alloc, &FED_AND_MOVED[..place])?;

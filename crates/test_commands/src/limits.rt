@@ -10,7 +10,7 @@ use std::test::Fail;
 const MOST: usize = 67_108_864;
 
 /// Bytes, and behind them others this number of times.
-fn repeat_behind(
+pub fn repeat_behind(
     alloc: Global,
     first: &[u8],
     others: &[u8],

@@ -2,7 +2,8 @@ use Rattle.std.proofs.Common.{[], append-nil, ap, sym, subst, ◌∙◌, Some}
 use Rattle.input_files.proofs.OnlyReading.{OpensFirst-none}
 use Rattle.job_commands.specs.declared.status.Status.{Status}
 use Rattle.job_commands.specs.Status.{IsRefusal, stage_of}
-use Rattle.job_commands.specs.Words.{asked_of, check_names, check_names_of, live_names, live_names_of, made_of}
+use Rattle.job_commands.specs.Words.{asked_of, check_names, check_names_of, drill_names, drill_names_of, live_names}
+use Rattle.job_commands.specs.Words.{live_names_of, made_of}
 use Rattle.job_commands.specs.Words.{make_names}
 use Rattle.job_commands.specs.Words.{names_of, play_names, play_names_of, run_names}
 use Rattle.job_commands.proofs.Outcomes.{made_completes, made_refuses, made_not_at_inputs}
@@ -10,6 +11,7 @@ use Rattle.job_commands.proofs.OneVerdict.{run_completes}
 use Rattle.job_commands.proofs.Plays.{play_completes}
 use Rattle.job_commands.proofs.Finds.{check_completes}
 use Rattle.job_commands.proofs.Others.{run_others, made_others, play_others, check_others}
+use Rattle.job_top.proofs.Drills.{drill_completes, drill_others}
 use Rattle.job_top.proofs.Lives.{not_lives}
 use Rattle.job_top.proofs.top.serial.Goals as goal
 
@@ -17,7 +19,7 @@ pub unreachable-requires : goal.unreachable-requires
 unreachable-requires g c =
     let words = c.args.words.now in
     not_lives (run_names words) (live_names words) (make_names words) (play_names words) (check_names words)
-    (live_names_of c.in-Some-Live.field-0-0) c.requires.no_rounds
+    (drill_names words) (live_names_of c.in-Some-Live.field-0-0) c.requires.no_rounds
     (c.in-Some-Live.ensures ∙ ap (λ z. Some (asked_of z)) c.in-Some-Live.field-0-is)
 
 pub returns-in-Some-Run-clause-done : goal.returns-in-Some-Run-clause-done
@@ -164,3 +166,40 @@ pub returns-in-Some-Make-clause-opens_all : goal.returns-in-Some-Make-clause-ope
 returns-in-Some-Make-clause-opens_all g c done =
     rw (c.in-Some-Make.ensures, c.in-Some-Make.field-0-is)
     (c.make_capture.ensures.writes_files.ledger.opened_names ∙ sym (append-nil _))
+
+pub returns-in-Some-Drill-clause-done : goal.returns-in-Some-Drill-clause-done
+returns-in-Some-Drill-clause-done g c p q done =
+    rw (c.in-Some-Drill.ensures, c.in-Some-Drill.field-0-is) (c.drill.ensures.done p q done)
+
+pub returns-in-Some-Drill-clause-completes : goal.returns-in-Some-Drill-clause-completes
+returns-in-Some-Drill-clause-completes g c ok p q =
+    rw (c.in-Some-Drill.ensures, c.in-Some-Drill.field-0-is)
+    (λ accepted. drill_completes (g.W.World.healthy c.args.world.now) (drill_names_of c.in-Some-Drill.names)
+    (g.W.World.shows p c.args.world.now) ok accepted c.drill.result (c.drill.ensures.judged p q))
+
+pub returns-in-Some-Drill-clause-refused : goal.returns-in-Some-Drill-clause-refused
+returns-in-Some-Drill-clause-refused g c p q =
+    rw (c.in-Some-Drill.ensures, c.in-Some-Drill.field-0-is) (λ e. c.drill.ensures.refused p q e)
+
+pub returns-in-Some-Drill-clause-limit : goal.returns-in-Some-Drill-clause-limit
+returns-in-Some-Drill-clause-limit g c p q limit e =
+    rw (c.in-Some-Drill.ensures, c.in-Some-Drill.field-0-is) (λ stage. c.drill.ensures.limit p q limit e stage)
+
+pub returns-in-Some-Drill-clause-others : goal.returns-in-Some-Drill-clause-others
+returns-in-Some-Drill-clause-others g c p q =
+    rw (c.in-Some-Drill.ensures, c.in-Some-Drill.field-0-is) (drill_others (drill_names_of c.in-Some-Drill.names)
+    (g.W.World.shows p c.args.world.now) (g.W.World.shows p c.drill.new.world) (c.drill.ensures.in_order p q))
+
+pub returns-in-Some-Drill-clause-write_fault : goal.returns-in-Some-Drill-clause-write_fault
+returns-in-Some-Drill-clause-write_fault g c e = (c.drill.ensures.write_fault e).rose
+
+pub returns-in-Some-Drill-clause-never_fails : goal.returns-in-Some-Drill-clause-never_fails
+returns-in-Some-Drill-clause-never_fails g c ok e = (c.drill.ensures.write_fault e).not_healthy ok
+
+pub returns-in-Some-Drill-clause-opens_in_order : goal.returns-in-Some-Drill-clause-opens_in_order
+returns-in-Some-Drill-clause-opens_in_order g c =
+    rw (c.in-Some-Drill.ensures, c.in-Some-Drill.field-0-is) c.drill.ensures.opens_in_order
+
+pub returns-in-Some-Drill-clause-opens_all : goal.returns-in-Some-Drill-clause-opens_all
+returns-in-Some-Drill-clause-opens_all g c done =
+    rw (c.in-Some-Drill.ensures, c.in-Some-Drill.field-0-is) (c.drill.ensures.opens_all done)
