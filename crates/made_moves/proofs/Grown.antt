@@ -1,16 +1,15 @@
 -- A move more: what it did is told by the moves before it.
-use Rattle.std.proofs.Common.{◌≡◌, ℕ, ◌+◌, arith, Bool, true, false, List, [], ◌∷◌, ◌++◌, length, refl, sym, ap, ◌∙◌}
+use Rattle.std.proofs.Common.{◌≡◌, ℕ, ◌+◌, arith, Bool, true, false, List, [], ◌∷◌, ◌++◌, length, refl, ap, ◌∙◌}
 use Rattle.std.proofs.Common.{subst}
-use Rattle.std.proofs.Common.{Option, Some, None, Result, Ok, Err}
-use Rattle.std.specs.Prelude.{◌&&◌, filter, if◌then◌else◌, nat_eq, nat_lt, slice_get, unwrap_or}
+use Rattle.std.proofs.Common.{Option, Some, None, Ok, Err}
+use Rattle.std.specs.Prelude.{◌&&◌, filter, if◌then◌else◌, nat_eq, nat_lt, slice_get}
 use Rattle.plain_text.specs.declared.packet.Packet.{Packet}
-use Rattle.entry_order.specs.Log.{entries, places, touches}
+use Rattle.entry_order.specs.Log.{entries, places}
 use Rattle.entry_order.specs.declared.what.What.{What}
 use Rattle.entry_order.specs.declared.what.What.TheVariants as what
 use Rattle.plain_machine.specs.declared.local.Move.{Move}
 use Rattle.plain_machine.specs.declared.local.Move.TheVariants as move
 use Rattle.plain_machine.specs.declared.plain_move.PlainMove.{PlainMove}
-use Rattle.plain_machine.specs.declared.plain_move.PlayCause.{PlayCause}
 use Rattle.plain_machine.specs.declared.plain_move.PlayCause.TheVariants.{NoSuchThread}
 use Rattle.plain_machine.specs.Program.{Meaning}
 use Rattle.plain_machine.specs.Machine.{Hand, Thread, Effect, Takes, Touches, Looks, HearsClock, HearsDraw, Sends, Ends}

@@ -1,6 +1,5 @@
 -- The moves so far were played, and what they did is noted.
 use Rattle.std.proofs.Common.{◌≡◌, ℕ, ◌+◌, ◌<◌, ◌≤◌, List, [], ◌∷◌, ◌++◌, length, take, get_or, refl, sym, ap, ◌∙◌}
-use Rattle.std.proofs.Common.{subst}
 use Rattle.std.proofs.Common.{Option, Some, None, Result, Ok, Err, arith}
 use Rattle.std.specs.Prelude.{IfOk, OnOk, nat_lt, slice_get, slice_index_or, if◌then◌else◌, Bool, true, false}
 use Rattle.std.specs.Option.{option_map_or}
@@ -28,7 +27,7 @@ use Rattle.plain_player.proofs.PlayedOn.{SoFar, found_illegal, made_more}
 use Rattle.made_moves.specs.declared.made.Did.{Did}
 use Rattle.made_moves.specs.declared.made.Made.{Made}
 use Rattle.made_moves.specs.Made.{IsIllegal, made_in, made_where, next_did}
-use Rattle.made_moves.proofs.Grown.{Counts, Grows, grown, none_counted}
+use Rattle.made_moves.proofs.Grown.{Counts, grown, none_counted}
 
 -- a seat for a thread that is not there
 none_seat : Seat

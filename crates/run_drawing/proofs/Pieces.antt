@@ -14,6 +14,11 @@ pub behind : (out new whole piece rest : List Element) → out ++ (piece ++ rest
 behind out new whole piece rest so_far is =
     ap (λ (l : List Element). l ++ rest) is ∙ append_assoc out piece rest ∙ so_far
 
+pub two_put : (out mid new : List Element) (a b : Element) → mid ≡ out ++ a ∷ [] → new ≡ mid ++ b ∷ []
+    → new ≡ out ++ a ∷ b ∷ []
+two_put out mid new a b first second =
+    second ∙ ap (λ (l : List Element). l ++ b ∷ []) first ∙ append_assoc out (a ∷ []) (b ∷ [])
+
 pub lanes_next : (many t n : ℕ) (out new whole : List Element) → t < n
     → out ++ thread_lanes many t (n - t) ≡ whole
     → new ≡ out ++ lane_elements many t (codes "thread " ++ decimal t)

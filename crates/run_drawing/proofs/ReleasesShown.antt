@@ -1,6 +1,6 @@
 -- Each released output has one full mark, and nothing else of what happens has one.
-use Rattle.std.proofs.Common.{◌≡◌, ℕ, zero, suc, ◌+◌, ◌-◌, Bool, true, false, List, [], ◌∷◌, ◌++◌, refl, sym, ap, ◌∙◌}
-use Rattle.std.proofs.Common.{append-nil, length, take, drop}
+use Rattle.std.proofs.Common.{◌≡◌, ℕ, zero, suc, ◌+◌, ◌-◌, Bool, true, false, List, [], ◌∷◌, ◌++◌, refl, ap, ◌∙◌}
+use Rattle.std.proofs.Common.{length, take, drop}
 use Rattle.std.specs.Prelude.{Option, Some, None, if◌then◌else◌, map, codes, decimal}
 use Rattle.entry_order.specs.declared.what.What.TheVariants as what
 use Rattle.recovery_world.specs.declared.event.Event.{Event}

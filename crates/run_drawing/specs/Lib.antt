@@ -1,5 +1,6 @@
 pub mod Marks
 pub mod Noted
+pub mod Overview
 pub mod Picture
 pub mod Places
 pub mod Promises

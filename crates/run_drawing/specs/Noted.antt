@@ -38,6 +38,7 @@ note_of ev to freed new = record {
   kept = kept_behind to new;
   made = made_behind to new;
   moves = length new.past;
+  fed = new.fed;
   released = length new.released;
   up = new.up;
   epoch = new.epoch;

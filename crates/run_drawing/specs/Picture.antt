@@ -24,6 +24,7 @@ use Rattle.run_drawing.specs.declared.note.Cell.{Cell}
 use Rattle.run_drawing.specs.declared.note.Note.{Note}
 use Rattle.run_drawing.specs.Marks.{access_before, arrow_from, entry_with, mark_of, move_title, shape_of}
 use Rattle.run_drawing.specs.Marks.{var_of}
+use Rattle.run_drawing.specs.Overview.{overview}
 use Rattle.run_drawing.specs.Places.{columns, entry_lane, in_cell, left, output_lane, top, width}
 
 -- Moves
@@ -275,17 +276,16 @@ are_short notes = list_all (λ (n : Note). nat_le n.moves 400) notes
 abbrev pub is_small : List Note → Bool
 is_small notes = are_short notes && nat_le (columns 0 notes) 400
 
--- of a larger one the picture has the title and the last line alone
+-- and else told in an overview
 abbrev pub drawn_elements : ℕ → List Note → List Element
 drawn_elements threads notes =
-    if is_small notes then run_elements (columns 0 notes) threads notes
-    else words_at class.Label (record { x = 10; y = 84 }) (codes "too long to be drawn move by move") ∷ []
+    if is_small notes then run_elements (columns 0 notes) threads notes else overview notes
 
 abbrev pub wide_of : List Note → ℕ
 wide_of notes = max 1300 (left (columns 0 notes) + 40)
 
 abbrev pub high_of : ℕ → ℕ
-high_of threads = top (threads + 4) + 20
+high_of threads = max 300 (top (threads + 4) + 20)
 
 abbrev pub picture : List ℕ → List ℕ → ℕ → List Note → Drawing
 picture title last threads notes = record {

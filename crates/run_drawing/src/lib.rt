@@ -9,8 +9,10 @@ mod legend;
 mod marks;
 mod moves;
 mod note;
+mod overview;
 mod picture;
 mod places;
+mod samples;
 mod signs;
 
 pub use laws::{every_move_has_one_mark, every_released_output_has_one_full_mark};

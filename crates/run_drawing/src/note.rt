@@ -16,6 +16,8 @@ pub struct Note {
     pub made: MadeMoves,
     /// How many moves it has made in all.
     pub moves: u64,
+    /// How many packets of the capture came in, in all.
+    pub fed: u64,
     /// How many outputs were released in all.
     pub released: u64,
     /// Whether the master is up.

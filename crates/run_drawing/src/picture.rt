@@ -9,6 +9,7 @@ use crate::Note;
 use crate::events::put_events;
 use crate::ground::{put_bands, put_logger_lanes, put_thread_lanes, width, words};
 use crate::legend::put_legend;
+use crate::overview::put_overview;
 use crate::places::{advance, left, top};
 use plain_text::{Bytes, NoMemory};
 use std::alloc::Global;
@@ -100,8 +101,7 @@ fn put_drawn(
     if are_short(notes) && many <= 400 {
         return put_run(alloc, out, many, threads, notes);
     }
-    let text = b"too long to be drawn move by move";
-    out.push(words(alloc, Class::Label, Point { x: 10, y: 84 }, text)?)
+    put_overview(alloc, out, notes)
 }
 
 /// The picture of a run, as SVG: with this title, and this last line of its report, of so many threads.
@@ -118,7 +118,7 @@ pub fn put_picture(
 {
     let many = count_columns(notes)?;
     let wide = 1300u32.max(left(many) + 40);
-    let high = top(threads + 4) + 20;
+    let high = 300u32.max(top(threads + 4) + 20);
     let mut elements = Elements::new(alloc);
     put_frame(alloc, &mut elements, wide, high, title, last)?;
     put_drawn(alloc, &mut elements, many, threads, notes)?;

@@ -7,9 +7,9 @@ use Rattle.svg_text.specs.declared.class.Class.TheVariants as class
 use Rattle.svg_text.specs.declared.drawing.Point.{Point}
 use Rattle.svg_text.specs.declared.drawing.Shape.{Shape}
 use Rattle.svg_text.specs.declared.drawing.Shape.TheVariants as shape
-use Rattle.svg_text.specs.Drawing.{attribute, circle_text, class_text, class_word, field_text, line_text, measures}
-use Rattle.svg_text.specs.Drawing.{place_text, point_text, points_text, rectangle_text, size_text}
-use Rattle.svg_text.specs.WellFormed.{AreAttributes, IsText, End, is_in_value, is_name, attribute_of}
+use Rattle.svg_text.specs.Drawing.{attribute, class_text, class_word, field_text, measures}
+use Rattle.svg_text.specs.Drawing.{point_text, points_text, size_text}
+use Rattle.svg_text.specs.WellFormed.{AreAttributes, IsText, End, is_in_value}
 use Rattle.svg_text.proofs.Texts.{decimal_in_value, plain_text, text_append}
 
 -- Values

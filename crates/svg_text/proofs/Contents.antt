@@ -1,6 +1,5 @@
 -- Content behind content, and an element by itself.
-use Rattle.std.proofs.Common.{◌≡◌, ℕ, true, List, [], ◌∷◌, ◌++◌, refl, sym, ap, ◌∙◌, subst, append_assoc, append-nil}
-use Rattle.std.specs.Prelude.{codes}
+use Rattle.std.proofs.Common.{◌≡◌, ℕ, true, List, [], ◌∷◌, ◌++◌, refl, sym, subst, append_assoc, append-nil}
 use Rattle.std.specs.List.{flat_map, list_all}
 use Rattle.svg_text.specs.WellFormed.{AreAttributes, IsContent, Nothing, Text, Element, Empty, IsText, element_of}
 use Rattle.svg_text.specs.WellFormed.{empty_of, is_in_content, is_name}

@@ -1,5 +1,5 @@
 -- Elements and whole pictures are well-formed.
-use Rattle.std.proofs.Common.{◌≡◌, ℕ, true, List, [], ◌∷◌, ◌++◌, refl, sym, ap, ◌∙◌, subst, append_assoc, append-nil}
+use Rattle.std.proofs.Common.{◌≡◌, ℕ, true, List, [], ◌∷◌, ◌++◌, refl, sym, subst, append_assoc}
 use Rattle.std.specs.Prelude.{Option, Some, None, codes}
 use Rattle.std.specs.List.{flat_map}
 use Rattle.svg_text.specs.declared.drawing.Drawing.{Drawing}
@@ -7,7 +7,7 @@ use Rattle.svg_text.specs.declared.drawing.Element.{Element}
 use Rattle.svg_text.specs.declared.drawing.Shape.{Shape}
 use Rattle.svg_text.specs.declared.drawing.Shape.TheVariants as shape
 use Rattle.svg_text.specs.declared.look.TheConstants.{LOOK, TIP}
-use Rattle.svg_text.specs.Drawing.{class_text, drawing_text, element_text, escaped, measures, size_text, start_text}
+use Rattle.svg_text.specs.Drawing.{class_text, drawing_text, element_text, escaped, measures, size_text}
 use Rattle.svg_text.specs.Drawing.{tag_word, title_text, words_text}
 use Rattle.svg_text.specs.WellFormed.{AreAttributes, IsContent, Nothing, IsWellFormed, element_of, is_in_value, is_name}
 use Rattle.svg_text.proofs.Attributes.{element_attributes, picture_attributes}

@@ -1,11 +1,9 @@
-use Rattle.std.proofs.Common.{rules, ◌≡◌, ◌<◌, ◌∙◌, List, ℕ, Option, None, ap, refl, sym, arith, length, length-append}
+use Rattle.std.proofs.Common.{rules, ◌≡◌, ◌∙◌, List, ℕ, Option, None, ap, refl, arith, length, length-append}
 use Rattle.std.proofs.Common.{Ok, Err}
-use Rattle.std.specs.Prelude.{IfOk, slice_index_or}
-use Rattle.std.proofs.lemmas.Result.{IfOk-weaker}
+use Rattle.std.specs.Prelude.{slice_index_or}
 use Rattle.input_logger.specs.Inputs.{input_at}
 use Rattle.plain_machine.specs.declared.local.Local.{Local}
 use Rattle.plain_machine.specs.declared.plain_move.PlainMove.{PlainMove}
-use Rattle.plain_player.specs.declared.hand.MoveError.TheVariants as error
 use Rattle.plain_player.specs.Playing.{next_input, place_in_hand}
 use Rattle.plain_player.proofs.NextInputs.{input_there}
 use Rattle.plain_player.proofs.PlayedOn.{history_of}

@@ -1,0 +1,216 @@
+ghost use Rattle.std.specs.Prelude.{◌≡◌, ◌++◌, ◌≤◌, IfOk, OnOk};
+ghost use Rattle.run_drawing.specs.Overview.{across as across_of, axis_elements, counted, curve};
+ghost use Rattle.run_drawing.specs.Overview.{count_class, curves, epoch_line, epochs_from};
+ghost use Rattle.run_drawing.specs.Overview.{most_from, overview, overview_of, point_at};
+ghost use Rattle.run_drawing.specs.Overview.{points_from};
+ghost use Rattle.run_drawing.specs.Overview.{samples_from, upwards as upwards_of};
+
+use crate::Note;
+use crate::ground::words;
+use crate::marks::put_named;
+use crate::samples::{Count, Sample};
+use plain_text::{Bytes, NoMemory};
+use std::alloc::Global;
+use svg_text::{Class, Element, Elements, Point, Points, Shape};
+
+/// Every so many notes one.
+fn take_samples(alloc: Global, every: u64, notes: &[Note]) -> Result<Vec<Sample>, NoMemory>
+    requires { 1 ≤ every }
+    ensures { IfOk result (λ samples. samples.items ≡ samples_from every 0 notes.now) }
+{
+    let mut samples = Vec::new(alloc);
+    for (index, note) in notes.iter().enumerate() {
+        let place = index as u64;
+        if place % every == 0 {
+            samples.push(Sample {
+                index: place,
+                fed: note.fed,
+                released: note.released,
+                epoch: note.epoch,
+            })?;
+        }
+    }
+    Ok(samples)
+}
+
+/// The greatest count.
+fn most_of(notes: &[Note]) -> u64
+    ensures { result ≡ most_from 0 notes.now }
+{
+    let mut most = 0u64;
+    for note in notes {
+        most = most.max(note.fed.max(note.released));
+    }
+    most
+}
+
+/// Where an event stands among so many, to the right.
+fn across(many: u64, index: u64) -> u32
+    ensures { result ≡ across_of many index }
+{
+    let place = index.min(1_000_000_000) * 1000 / 1u64.max(many);
+    120 + place.min(1000) as u32
+}
+
+/// Where a count stands, upwards.
+fn upwards(most: u64, number: u64) -> u32
+    ensures { result ≡ upwards_of most number }
+{
+    let height = number.min(1_000_000_000) * 200 / 1u64.max(most);
+    260 - height.min(200) as u32
+}
+
+/// The count of a sample.
+fn count_in(count: Count, sample: Sample) -> u64
+    ensures { result ≡ counted count sample }
+{
+    match count {
+        Count::Fed => sample.fed,
+        Count::Left => sample.released,
+    }
+}
+
+/// Where a sample stands.
+fn point(count: Count, many: u64, most: u64, sample: Sample) -> Point
+    ensures { result ≡ point_at count many most sample }
+{
+    Point {
+        x: across(many, sample.index),
+        y: upwards(most, count_in(count, sample)),
+    }
+}
+
+/// Where all samples stand.
+fn points(
+    alloc: Global,
+    count: Count,
+    many: u64,
+    most: u64,
+    samples: &[Sample],
+) -> Result<Points, NoMemory>
+    ensures { IfOk result (λ points. points ≡ points_from count many most samples.now) }
+{
+    let mut points = Points::new(alloc);
+    for sample in samples {
+        points.push(point(count, many, most, *sample))?;
+    }
+    Ok(points)
+}
+
+/// The class of a curve.
+fn class_of(count: Count) -> Class
+    ensures { result ≡ count_class count }
+{
+    match count {
+        Count::Fed => Class::Fed,
+        Count::Left => Class::Left,
+    }
+}
+
+/// The curve of a count.
+fn curve_of(
+    alloc: Global,
+    count: Count,
+    many: u64,
+    most: u64,
+    samples: &[Sample],
+) -> Result<Element, NoMemory>
+    ensures { IfOk result (λ element. element ≡ curve count many most samples.now) }
+{
+    Ok(Element {
+        class: class_of(count),
+        title: None,
+        shape: Shape::Polyline(points(alloc, count, many, most, samples)?),
+    })
+}
+
+/// The line where an epoch begins.
+fn line_of(alloc: Global, many: u64, sample: Sample) -> Result<Element, NoMemory>
+    ensures { IfOk result (λ element. element ≡ epoch_line many sample) }
+{
+    let mut title = Bytes::new(alloc);
+    put_named(&mut title, b"epoch ", u64::from(sample.epoch))?;
+    let x = across(many, sample.index);
+    Ok(Element {
+        class: Class::Crash,
+        title: Some(title),
+        shape: Shape::Line {
+            from: Point { x, y: 60 },
+            to: Point { x, y: 260 },
+        },
+    })
+}
+
+/// Appends a line for each sample that has another epoch than the one before it.
+fn put_epochs(
+    alloc: Global,
+    out: &mut Elements,
+    many: u64,
+    samples: &[Sample],
+) -> Result<(), NoMemory>
+    ensures { OnOk result (out.new ≡ out.old ++ epochs_from many 1 samples.now) }
+{
+    let mut before = 1;
+    for sample in samples {
+        if sample.epoch != before {
+            out.push(line_of(alloc, many, *sample)?)?;
+        }
+        before = sample.epoch;
+    }
+    Ok(())
+}
+
+/// Appends the axis with its word.
+fn put_axis(alloc: Global, out: &mut Elements) -> Result<(), NoMemory>
+    ensures { OnOk result (out.new ≡ out.old ++ axis_elements) }
+{
+    out.push(Element {
+        class: Class::Lane,
+        title: None,
+        shape: Shape::Line {
+            from: Point { x: 120, y: 260 },
+            to: Point { x: 1120, y: 260 },
+        },
+    })?;
+    let text =
+        b"packets that came in (black) and were released (green), event by event; epochs (red)";
+    out.push(words(alloc, Class::Label, Point { x: 120, y: 280 }, text)?)
+}
+
+/// Appends both curves.
+fn put_curves(
+    alloc: Global,
+    out: &mut Elements,
+    many: u64,
+    most: u64,
+    samples: &[Sample],
+) -> Result<(), NoMemory>
+    ensures { OnOk result (out.new ≡ out.old ++ curves many most samples.now) }
+{
+    out.push(curve_of(alloc, Count::Fed, many, most, samples)?)?;
+    out.push(curve_of(alloc, Count::Left, many, most, samples)?)
+}
+
+/// Appends the overview of samples.
+fn put_sampled(
+    alloc: Global,
+    out: &mut Elements,
+    many: u64,
+    most: u64,
+    samples: &[Sample],
+) -> Result<(), NoMemory>
+    ensures { OnOk result (out.new ≡ out.old ++ overview_of many most samples.now) }
+{
+    put_axis(alloc, out)?;
+    put_epochs(alloc, out, many, samples)?;
+    put_curves(alloc, out, many, most, samples)
+}
+
+/// Appends the overview of a long run.
+pub fn put_overview(alloc: Global, out: &mut Elements, notes: &[Note]) -> Result<(), NoMemory>
+    ensures { OnOk result (out.new ≡ out.old ++ overview notes.now) }
+{
+    let many = notes.len() as u64;
+    let samples = take_samples(alloc, many / 200 + 1, notes)?;
+    put_sampled(alloc, out, many, most_of(notes), samples.as_slice())
+}
