@@ -4,16 +4,20 @@ ghost use Rattle.std.specs.Process.{exit_status};
 use crate::{exit_of, read_words, run_words, tell_more};
 use job_commands::{Status, StatusText};
 use std::env;
+use std::io::IsTerminal;
 use std::process::ExitCode;
 use std::rt::{self, Env, Files};
 use std::sync::Wait;
 use std::thread::Threads;
 use var_locks::OpenGate;
-use world_real::RealClock;
+use world_real::{ProgressLine, RealClock};
+
+/// Takes away what stands in the line behind the cursor (ECMA-48, "erase in line").
+const CLEAR_LINE: &str = "\x1b[K";
 
 /// The program: does what its arguments ask for over the files of the system, by its clock and on
 /// its threads, tells what was not done, and ends with the number of the status, which is 7 at
-/// most.
+/// most. Standard error gets a line of progress, where it is a terminal.
 #[tactic(auto, using(crate::proofs::ExitCodes::most_exit_code))]
 pub fn run_program<
     R: Env
@@ -27,7 +31,8 @@ pub fn run_program<
         + rt::Clock
         + Clone
         + Drop,
->(rt: &R) -> ExitCode
+    E: Eprint + IsTerminal,
+>(rt: &R, errors: &E) -> ExitCode
     ensures number { exit_status result ≤ 7 }
 {
     let Ok(own) = rt.clone() else {
@@ -38,9 +43,19 @@ pub fn run_program<
         Ok(words) => words,
         Err(status) => return exit_of(tell(rt, status)),
     };
-    let status = tell(rt, run_words(rt, words.as_slice(), &clock, &OpenGate));
+    let line = ProgressLine::new(&clock, errors);
+    let status = run_words(rt, words.as_slice(), &clock, &OpenGate, line);
+    end_line(errors);
+    let status = tell(rt, status);
     let _ = tell_more(rt, words.as_slice(), status);
     exit_of(status)
+}
+
+/// Takes a line of progress away, where there may be one.
+fn end_line<E: Eprint + IsTerminal>(errors: &E) {
+    if errors.is_terminal() {
+        let _ = errors.eprint(CLEAR_LINE);
+    }
 }
 
 /// Tells on standard error what was not done. The status stays, unless telling fails.

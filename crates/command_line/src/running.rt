@@ -14,13 +14,14 @@ use std::thread::Threads;
 use tap_command::{Split, split_taps, tapped};
 use var_locks::Gate;
 use world_io::Clock;
-use world_real::{FileTap, RealWorld};
+use world_real::{FileTap, Notice, RealWorld, Silence};
 use world_told::Told;
 
 /// Does what the words ask for over the files of the system: performs them; or, where pairs
 /// `tap NAME` stand in front, runs what stands behind them and mirrors the released capture under
 /// each name; or, where the first word is `watch`, prints a line for each packet of a window. Where
-/// the file of an output is seen to be that of another word (`one_file`), it does nothing.
+/// the file of an output is seen to be that of another word (`one_file`), it does nothing. The
+/// notice is told how much is written.
 ///
 /// The files stand in a world with a record of its calls. So what `perform`, `tapped` and
 /// `watch_words` promise by a beginning holds of the program: whatever bytes stood under the names
@@ -28,8 +29,9 @@ use world_told::Told;
 pub fn run_words<
     C: Clock + Sync,
     G: Gate + Sync,
+    N: Notice + Drop,
     R: AllocGlobal + Files + Print + Threads + Wait + Sync,
->(rt: &R, words: &[Text], clock: &C, gate: &G) -> Status
+>(rt: &R, words: &[Text], clock: &C, gate: &G, notice: N) -> Status
     ensures bad_taps { BeginsWithTap words.now → ((pairs : ℕ) → ¬ AsksForTaps words.now pairs)
         → result ≡ Status.BadWords }
     ensures no_command { ¬ BeginsWithTap words.now
@@ -40,9 +42,9 @@ pub fn run_words<
         return Status::BadWords;
     }
     match split_taps(words) {
-        Split::Plain => run_plain(rt, words, clock, gate),
+        Split::Plain => run_plain(rt, words, clock, gate, notice),
         Split::Bad => Status::BadWords,
-        Split::Taps { pairs, .. } => run_tapped(rt, words, pairs, clock, gate),
+        Split::Taps { pairs, .. } => run_tapped(rt, words, pairs, clock, gate, notice),
     }
 }
 
@@ -51,18 +53,19 @@ pub fn run_words<
 fn run_plain<
     C: Clock + Sync,
     G: Gate + Sync,
+    N: Notice + Drop,
     R: AllocGlobal + Files + Print + Threads + Wait + Sync,
->(rt: &R, words: &[Text], clock: &C, gate: &G) -> Status
+>(rt: &R, words: &[Text], clock: &C, gate: &G, notice: N) -> Status
     ensures no_command { asked words.now ≡ None → asked_text words.now ≡ None
         → begins_watch words.now ≡ false → result ≡ Status.BadWords }
 {
-    let mut world = Told::of(RealWorld::new(rt.alloc(), rt));
+    let mut world = Told::of(RealWorld::new(rt.alloc(), rt, notice));
     if asks_watch(words) {
         return watch_words(
             rt.alloc(),
             words,
             &mut world,
-            RealWorld::new(rt.alloc(), rt),
+            RealWorld::new(rt.alloc(), rt, Silence),
         );
     }
     perform(rt, words, &mut world, clock, gate)
@@ -73,15 +76,16 @@ fn run_plain<
 fn run_tapped<
     C: Clock + Sync,
     G: Gate + Sync,
+    N: Notice + Drop,
     R: AllocGlobal + Files + Print + Threads + Wait + Sync,
->(rt: &R, words: &[Text], pairs: usize, clock: &C, gate: &G) -> Status
+>(rt: &R, words: &[Text], pairs: usize, clock: &C, gate: &G, notice: N) -> Status
     requires { AsksForTaps words.now pairs }
 {
     let taps = match create_taps(rt, words, pairs) {
         Ok(taps) => taps,
         Err(status) => return status,
     };
-    let world = Told::of(RealWorld::new(rt.alloc(), rt));
+    let world = Told::of(RealWorld::new(rt.alloc(), rt, notice));
     match tapped(rt, words, world, taps, clock, gate) {
         Ok(run) => run.status,
         Err(NoMemory) => Status::NoMemory,

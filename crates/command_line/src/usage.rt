@@ -42,6 +42,14 @@ crashes, and reports what became of the packets, and whether the same left.
   RELEASED  capture of the packets that were released, written
   SCHEDULE  text of the moves of the run in which it ends, written
 
+ftmb trace BOX CAPTURE SCRIPT TABLE
+
+Performs a script as `run` does, and tells of each packet what became of it.
+
+  TABLE     text with a heading and a line for each packet that came in, with
+            tabs: its number, its thread, its number there, the epoch and the
+            event with which it left, and its fate, written
+
 ftmb tap NAME .. run BOX CAPTURE SCRIPT RELEASED SCHEDULE
 ftmb tap NAME .. live BOX CAPTURE PLAN RELEASED SCHEDULE SCRIPT
 

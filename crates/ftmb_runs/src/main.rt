@@ -19,6 +19,7 @@ use std::thread::Threads;
 use std::{env, fs, io};
 use var_locks::OpenGate;
 use world_io::FixedClock;
+use world_real::Silence;
 
 /// What the clock answers in each session, in microseconds.
 const TIME: u64 = 100_000_006;
@@ -39,7 +40,7 @@ fn run<R: AllocGlobal + Files + Print + Threads + Wait + Sync>(
 ) -> io::Result<()> {
     let arguments = arguments(rt.alloc(), words)?;
     let status = match read_words(rt.alloc(), Ok(arguments)) {
-        Ok(words) => run_words(rt, words.as_slice(), &FixedClock(TIME), &OpenGate),
+        Ok(words) => run_words(rt, words.as_slice(), &FixedClock(TIME), &OpenGate, Silence),
         Err(status) => status,
     };
     let number = status.exit_code();

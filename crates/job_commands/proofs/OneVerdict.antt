@@ -130,7 +130,7 @@ module _ (healthy : Type 0) (names : RunNames) (shown : Shown) where
   script_not_both events e accepted d h =
       let one : Ok events ≡ Err e = script_one (Ok events) (Err e) tt d accepted h in cc
 
-  inputs_one : (x y : Inputs) → AcceptsInputs names x shown → AcceptsInputs names y shown → x ≡ y
+  pub inputs_one : (x y : Inputs) → AcceptsInputs names x shown → AcceptsInputs names y shown → x ≡ y
   inputs_one x y a b =
       let conf : box_ok x.conf ≡ box_ok y.conf = box_one (Ok x.conf) (Ok y.conf) tt tt a.box_accepted b.box_accepted in
       let capture : capture_ok x.capture ≡ capture_ok y.capture =

@@ -11,6 +11,7 @@ use Rattle.job_commands.specs.declared.schedule_words.ScheduleFiles.{ScheduleFil
 use Rattle.job_commands.specs.declared.schedule_words.PlayWords.{PlayWords}
 use Rattle.job_commands.specs.declared.schedule_words.CheckWords.{CheckWords}
 use Rattle.job_commands.specs.declared.drill_words.DrillWords.{DrillWords}
+use Rattle.job_commands.specs.declared.trace_words.TraceWords.{TraceWords}
 use Rattle.job_commands.specs.declared.command.Command as command_words
 use Rattle.job_commands.specs.declared.command.Command.TheVariants as words
 
@@ -214,6 +215,40 @@ drill_names (command ∷ box_file ∷ capture ∷ every ∷ released ∷ schedul
     else None
 drill_names (a ∷ b ∷ c ∷ d ∷ e ∷ f ∷ g ∷ more) = None
 
+-- the names of the files of a trace
+pub record TraceNames : Type 0 where
+  pub box_file : List ℕ
+  pub capture : List ℕ
+  pub script : List ℕ
+  pub table : List ℕ
+
+abbrev pub trace_names_of : TraceWords → TraceNames
+trace_names_of w =
+    record { box_file = w.box_file.now; capture = w.capture.now; script = w.script.now; table = w.table.now }
+
+-- the names of the run that is traced; it writes no outputs, and the table stands for both
+abbrev pub traced_run : TraceNames → RunNames
+traced_run names = record {
+  box_file = names.box_file;
+  capture = names.capture;
+  script = names.script;
+  released = names.table;
+  schedule = names.table;
+}
+
+-- `trace` with four names
+abbrev pub trace_names : List (List ℕ) → Option TraceNames
+trace_names [] = None
+trace_names (a ∷ []) = None
+trace_names (a ∷ b ∷ []) = None
+trace_names (a ∷ b ∷ c ∷ []) = None
+trace_names (a ∷ b ∷ c ∷ d ∷ []) = None
+trace_names (command ∷ box_file ∷ capture ∷ script ∷ table ∷ []) =
+    if bytes_eq command (codes "trace")
+    then Some (record { box_file = box_file; capture = capture; script = script; table = table })
+    else None
+trace_names (a ∷ b ∷ c ∷ d ∷ e ∷ f ∷ more) = None
+
 -- a command, with what its words name
 pub data Asked : Type 0 where
   Runs : RunNames → Asked
@@ -222,23 +257,25 @@ pub data Asked : Type 0 where
   Plays : PlayNames → Asked
   Checks : CheckNames → Asked
   Drills : DrillNames → Asked
+  Traces : TraceNames → Asked
 
 -- the one command whose names are there; no words are those of two
 abbrev pub one_of : Option RunNames → Option LiveNames → Option MakeNames → Option PlayNames → Option CheckNames
-    → Option DrillNames → Option Asked
-one_of (Some names) live make play check drill = Some (Runs names)
-one_of None (Some names) make play check drill = Some (Lives names)
-one_of None None (Some names) play check drill = Some (Makes names)
-one_of None None None (Some names) check drill = Some (Plays names)
-one_of None None None None (Some names) drill = Some (Checks names)
-one_of None None None None None (Some names) = Some (Drills names)
-one_of None None None None None None = None
+    → Option DrillNames → Option TraceNames → Option Asked
+one_of (Some names) live make play check drill trace = Some (Runs names)
+one_of None (Some names) make play check drill trace = Some (Lives names)
+one_of None None (Some names) play check drill trace = Some (Makes names)
+one_of None None None (Some names) check drill trace = Some (Plays names)
+one_of None None None None (Some names) drill trace = Some (Checks names)
+one_of None None None None None (Some names) trace = Some (Drills names)
+one_of None None None None None None (Some names) = Some (Traces names)
+one_of None None None None None None None = None
 
--- the command that words ask for: `run`, `live`, `make`, `play`, `check` or `drill`
+-- the command that words ask for: `run`, `live`, `make`, `play`, `check`, `drill` or `trace`
 abbrev pub asked : List (List ℕ) → Option Asked
 asked words =
     one_of (run_names words) (live_names words) (make_names words) (play_names words) (check_names words)
-    (drill_names words)
+    (drill_names words) (trace_names words)
 
 -- where the words ask for a command, this is so of it
 abbrev pub IfAsks : List (List ℕ) → (Asked → Type 0) → Type 0
@@ -251,6 +288,7 @@ asked_of (words.Make w) = Makes (made_of w)
 asked_of (words.Play w) = Plays (play_names_of w)
 asked_of (words.Check w) = Checks (check_names_of w)
 asked_of (words.Drill w) = Drills (drill_names_of w)
+asked_of (words.Trace w) = Traces (trace_names_of w)
 
 -- The names of the input files of a command, in the order of its words, which is the order in which they are read
 
@@ -277,3 +315,4 @@ inputs_of (Makes names) = []
 inputs_of (Plays names) = schedule_inputs names.files
 inputs_of (Checks names) = check_inputs names
 inputs_of (Drills names) = drill_inputs names
+inputs_of (Traces names) = run_inputs (traced_run names)

@@ -1,5 +1,5 @@
 //! The commands of FTMB beside the top call: their words and statuses, `make`, `play` and `check`, the inputs of `run`,
-//! `live` and `drill`, and the laws.
+//! `trace`, `live` and `drill`, and the laws.
 #![tactic(auto)]
 
 mod checking;
@@ -18,6 +18,7 @@ mod schedule_inputs;
 mod schedule_words;
 mod status;
 mod text;
+mod trace_words;
 
 pub use checking::check_released;
 pub use command::{Command, read_command};
@@ -38,3 +39,4 @@ pub use schedule_inputs::{CheckInputs, ScheduleInputs, read_check_inputs, read_s
 pub use schedule_words::{CheckWords, PlayWords, ScheduleFiles, read_check_words, read_play_words};
 pub use status::{InputFault, Status, outcome, run_outcome};
 pub use text::StatusText;
+pub use trace_words::{TraceWords, read_trace_words};

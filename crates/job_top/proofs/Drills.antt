@@ -6,8 +6,7 @@ use Rattle.plain_player.specs.ScheduleText.{schedule_text}
 use Rattle.box_conf.specs.declared.kind.BoxConf.{BoxConf}
 use Rattle.world_io.specs.World.{Shown}
 use Rattle.recovery_world.specs.World.{Setting}
-use Rattle.recovery_world.specs.Files.{LeavesAt}
-use Rattle.output_files.specs.Writes.{Write, HasBegun, HasWritten}
+use Rattle.output_files.specs.Writes.{Write}
 use Rattle.run_writes.specs.declared.error.RunError.{RunError}
 use Rattle.run_writes.specs.declared.error.RunError.TheVariants as run_error
 use Rattle.run_writes.specs.Run.{KeepsOthers, OutputNames}
@@ -26,7 +25,7 @@ use Rattle.job_commands.proofs.Outcomes.{begun_writes_since, files_since, writte
 use Rattle.job_commands.proofs.RunLimits.{stops_are}
 use Rattle.job_commands.proofs.ThreeFiles.{two_accepted, two_pass, two_refused}
 use Rattle.job_top.specs.Drill.{AcceptsDrillInputs, AreAcceptedForDrill, DrillsInOrder, DrillsToLimit, DrillsWhole}
-use Rattle.job_top.specs.Drill.{JudgesDrill, SaysOfDrill, StopsDrill, drill_outputs, drill_setting, has_drop_table}
+use Rattle.job_top.specs.Drill.{JudgesDrill, SaysOfDrill, drill_outputs, drill_setting, has_drop_table}
 
 -- The files are as they were when the inputs had been read.
 module _ (a b c : Shown) (keeps : KeepsOutputs a b) where

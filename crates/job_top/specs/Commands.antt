@@ -19,9 +19,11 @@ use Rattle.job_commands.specs.Run.{RunsWhole, RunsToLimit, RunsInOrder, outputs_
 use Rattle.job_commands.specs.Schedules.{AcceptsScheduleInputs, AcceptsCheckInputs, JudgesPlay, JudgesCheck, PlaysWhole}
 use Rattle.job_commands.specs.Schedules.{PlaysInOrder, FindsAll, FindsInOrder}
 use Rattle.job_commands.specs.Status.{AtOutputs, ComesAt, Completes, Stage, stage_of, stage_of_limit}
-use Rattle.job_commands.specs.Words.{Asked, Runs, Lives, Makes, Plays, Checks, Drills}
+use Rattle.job_commands.specs.Words.{Asked, Runs, Lives, Makes, Plays, Checks, Drills, Traces}
 use Rattle.job_top.specs.Drill.{AreAcceptedForDrill, DrillsInOrder, DrillsToLimit, DrillsWhole, JudgesDrill}
 use Rattle.job_top.specs.Drill.{drill_outputs}
+use Rattle.job_top.specs.Trace.{AreAcceptedForTrace, JudgesTrace, KeepsTraceNames, TracesInOrder, TracesToLimit}
+use Rattle.job_top.specs.Trace.{TracesWhole}
 use Rattle.job_top.specs.Live.{JudgesLive, KeepsLiveNames, LivesFiles, LivesLimit, LivesOrder, live_stage}
 
 -- the outputs have all that the command gives, where the clock may answer these times
@@ -32,6 +34,7 @@ Leaves may (Makes names) old new = HasWritten (made_writes names) old new
 Leaves may (Plays names) old new = PlaysWhole names old new
 Leaves may (Checks names) old new = FindsAll names old new
 Leaves may (Drills names) old new = DrillsWhole names old new
+Leaves may (Traces names) old new = TracesWhole names old new
 
 -- What the command leaves that stopped at this limit. Of `run` and `drill` the limits of runs come once their inputs
 -- are accepted; of `live` those of files and events may, too; of no other command one comes then.
@@ -42,6 +45,7 @@ StopsAtLimit (Makes names) limit old new = stage_of_limit limit ≡ AtOutputs �
 StopsAtLimit (Plays names) limit old new = stage_of_limit limit ≡ AtOutputs → ⊥
 StopsAtLimit (Checks names) limit old new = stage_of_limit limit ≡ AtOutputs → ⊥
 StopsAtLimit (Drills names) limit old new = stage_of_limit limit ≡ AtOutputs → DrillsToLimit names limit old new
+StopsAtLimit (Traces names) limit old new = stage_of_limit limit ≡ AtOutputs → TracesToLimit names limit old new
 
 -- the stage at which a status of the command comes; a limit of `live` may be passed at any time
 abbrev pub stage_in : Asked → Status → Stage
@@ -51,6 +55,7 @@ stage_in (Makes names) status = stage_of status
 stage_in (Plays names) status = stage_of status
 stage_in (Checks names) status = stage_of status
 stage_in (Drills names) status = stage_of status
+stage_in (Traces names) status = stage_of status
 
 -- some first part of what the command gives was written, in its order
 abbrev pub LeavesInOrder : Asked → Shown → Shown → Type 0
@@ -60,6 +65,7 @@ LeavesInOrder (Makes names) old new = HasBegun (made_writes names) old new
 LeavesInOrder (Plays names) old new = PlaysInOrder names old new
 LeavesInOrder (Checks names) old new = FindsInOrder names old new
 LeavesInOrder (Drills names) old new = DrillsInOrder names old new
+LeavesInOrder (Traces names) old new = TracesInOrder names old new
 
 -- what the status says of the input files, and of the run or of what is played, where the world may be healthy; `make`
 -- has no inputs
@@ -70,8 +76,10 @@ JudgesInputsOf healthy (Makes names) status shown = ComesAt AtOutputs status
 JudgesInputsOf healthy (Plays names) status shown = JudgesPlay healthy names status shown
 JudgesInputsOf healthy (Checks names) status shown = JudgesCheck healthy names status shown
 JudgesInputsOf healthy (Drills names) status shown = JudgesDrill healthy names status shown
+JudgesInputsOf healthy (Traces names) status shown = JudgesTrace healthy names status shown
 
--- the inputs of the command are there, are accepted and pass no limit, and nor does the run of a script or the drill
+-- the inputs of the command are there, are accepted and pass no limit, and nor does the run of a script, the drill
+-- or the trace
 abbrev pub AcceptsInputsOf : Asked → Shown → Type 0
 AcceptsInputsOf (Runs names) shown = AreAccepted names shown
 AcceptsInputsOf (Lives names) shown = (inputs : LiveInputs) × AcceptsLiveInputs names inputs shown
@@ -79,6 +87,7 @@ AcceptsInputsOf (Makes names) shown = Unit {0}
 AcceptsInputsOf (Plays names) shown = (inputs : ScheduleInputs) × AcceptsScheduleInputs names.files inputs shown
 AcceptsInputsOf (Checks names) shown = (inputs : CheckInputs) × AcceptsCheckInputs names inputs shown
 AcceptsInputsOf (Drills names) shown = AreAcceptedForDrill names shown
+AcceptsInputsOf (Traces names) shown = AreAcceptedForTrace names shown
 
 -- What a command comes to whose inputs are accepted: it is done, or memory ran out; or `live` names a limit, which a
 -- script of its plan passes; or `play` the first illegal move of the schedule, or `check` what it refutes.
@@ -89,6 +98,7 @@ CompletesAs (Makes names) status = Completes status
 CompletesAs (Plays names) status = Completes status ⊎ ((fault : PlayFault) × (status ≡ BadInput (Moves fault)))
 CompletesAs (Checks names) status = Completes status ⊎ ((refutation : Refutation) × (status ≡ Refuted refutation))
 CompletesAs (Drills names) status = Completes status
+CompletesAs (Traces names) status = Completes status
 
 -- names that are no output of the command are as they were
 abbrev pub KeepsNames : Asked → Shown → Shown → Type 0
@@ -98,3 +108,4 @@ KeepsNames (Makes names) old new = (name : List ℕ) → ¬ (name ≡ names.capt
 KeepsNames (Plays names) old new = (name : List ℕ) → ¬ (name ≡ names.out) → new.names name ≡ old.names name
 KeepsNames (Checks names) old new = (name : List ℕ) → new.names name ≡ old.names name
 KeepsNames (Drills names) old new = KeepsOthers (drill_outputs names) old new
+KeepsNames (Traces names) old new = KeepsTraceNames names old new

@@ -3,3 +3,4 @@ pub mod Commands
 pub mod Drill
 pub mod Headline
 pub mod Live
+pub mod Trace

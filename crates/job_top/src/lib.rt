@@ -4,6 +4,7 @@
 mod drill;
 mod live;
 mod top;
+mod trace;
 
 pub use job_commands::{InputFault, Status};
 pub use top::{ftmb, serial};

@@ -19,6 +19,7 @@ ghost use Rattle.world_io.specs.World.{Start, WritingFailed};
 
 use crate::drill::drill;
 use crate::live::live;
+use crate::trace::trace;
 use box_conf::BoxKind;
 use job_commands::{
     Command, Inputs, RunWords, Status, check_released, make_capture, outcome, play_capture,
@@ -175,6 +176,7 @@ pub fn serial<W: World>(alloc: Global, words: &[Text], world: &mut W) -> Status
         Some(Command::Play(names)) => play_capture(alloc, world, names),
         Some(Command::Check(names)) => check_released(alloc, world, names),
         Some(Command::Drill(names)) => drill(alloc, world, names),
+        Some(Command::Trace(names)) => trace(alloc, world, names),
         Some(Command::Live(_)) => unreachable!(),
         None => Status::BadWords,
     }
@@ -213,6 +215,11 @@ pub fn serial<W: World>(alloc: Global, words: &[Text], world: &mut W) -> Status
 /// as there are packets for, and `settle`. RELEASED and SCHEDULE are those that `run` leaves for it. The report says
 /// what became of the packets, what the crashes cost, and whether the same packets left as in a run beside it without
 /// crashes. The outputs are created when both runs are done.
+///
+/// `trace BOX CAPTURE SCRIPT TABLE`, four names: the box is run on the capture by the events of the script, and TABLE
+/// gets a heading and a line for each packet that was fed: which thread it went to, and what became of it. The report
+/// is the last line of that of `run`. TABLE is created when all is done; where the run would pass a limit, nothing is
+/// written.
 ///
 /// What the clauses say of bytes they say by each beginning, the bytes that stood under each name then, for which the
 /// world's answers were honest: those of files with these bytes.

@@ -56,7 +56,7 @@ fn large_runs_are_accepted(rt: HostRuntime) -> Result<(), Fail> {
 }
 
 /// Six times all 65,536 packets are settled and the master crashes, which has 1,966,080 moves in all.
-const SETTLED: &[u8] =
+pub const SETTLED: &[u8] =
     b"settle\ncrash\nsettle\ncrash\nsettle\ncrash\nsettle\ncrash\nsettle\ncrash\nsettle\ncrash\nsettle\ncrash\n";
 
 /// The lines of the report before the limit of 2,000,000 moves.

@@ -1,7 +1,7 @@
 //! Tests of the commands over the world in memory, of what no stored session of the program can do: reads and writes
 //! that fail, files at the limits of their size, a crash at each event of a race, large runs from a number, drills
-//! beside the runs that they are, and threads that race and wait for one another. They stand apart from `job_top`, so
-//! that it is proved once and not again with its tests.
+//! beside the runs that they are, traces, and threads that race and wait for one another. They stand apart from
+//! `job_top`, so that it is proved once and not again with its tests.
 #![tactic(auto)]
 
 #[cfg(test)]
@@ -24,3 +24,5 @@ mod limits;
 mod plans;
 #[cfg(test)]
 mod taps;
+#[cfg(test)]
+mod traces;

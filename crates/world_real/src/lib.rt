@@ -1,4 +1,5 @@
-//! The outside of the program: the files of the system, standard output as the report, and the system's clock.
+//! The outside of the program: the files of the system, standard output as the report, the system's clock, and a line
+//! of progress.
 //!
 //! This is the trusted edge. What a call answers, which numbers it gives and how it counts faults
 //! is proved. That the bytes a call moved are those of the named file is not, and no proof can
@@ -8,6 +9,7 @@
 #![tactic(auto)]
 
 mod file_tap;
+mod notice;
 mod pieces;
 mod real_clock;
 mod real_file;
@@ -16,5 +18,6 @@ mod real_world;
 mod tests;
 
 pub use file_tap::FileTap;
+pub use notice::{Notice, ProgressLine, Silence};
 pub use real_clock::RealClock;
 pub use real_world::RealWorld;

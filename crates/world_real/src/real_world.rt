@@ -7,6 +7,7 @@ ghost use Rattle.world_io.specs.World.{KeepsLedgerReading, KeepsLedgerWriting, G
 ghost use Rattle.world_io.specs.World.{GivesCreated, is_writable};
 ghost use Rattle.world_real.specs.Real.{IsUnused, file_at, held_at, left_at, real_ledger};
 
+use crate::notice::Notice;
 use crate::pieces::{read_some, write_some};
 use crate::real_file::RealFile;
 use plain_text::Text;
@@ -22,16 +23,17 @@ use world_io::{Filled, OpenFault, Put, World};
 /// and are given once, the names of the opened files, in order, and how often reading and writing
 /// failed. It never says that it is healthy: any call may fail.
 #[derive(Drop)]
-pub struct RealWorld<R: Files + Print + Drop> {
+pub struct RealWorld<R: Files + Print + Drop, N: Notice + Drop> {
     alloc: Global,
     rt: R,
+    notice: N,
     files: Vec<RealFile<R::File>>,
     opened_names: Vec<Text>,
     read_faults: u64,
     write_faults: u64,
 }
 
-impl<R: Files + Print + Drop> Model for RealWorld<R> {
+impl<R: Files + Print + Drop, N: Notice + Drop> Model for RealWorld<R, N> {
     ghost use Rattle.world_real.specs.Real.{Real};
 
     ghost Value = { Real R.File };
@@ -44,14 +46,15 @@ impl<R: Files + Print + Drop> Model for RealWorld<R> {
     } };
 }
 
-impl<R: Files + Print + Drop> RealWorld<R> {
-    /// No number was given, and nothing failed.
-    pub fn new(alloc: Global, rt: R) -> Self
+impl<R: Files + Print + Drop, N: Notice + Drop> RealWorld<R, N> {
+    /// No number was given, and nothing failed. The notice is told how much is written.
+    pub fn new(alloc: Global, rt: R, notice: N) -> Self
         ensures { IsUnused (real_ledger result) }
     {
         RealWorld {
             alloc,
             rt,
+            notice,
             files: Vec::new(alloc),
             opened_names: Vec::new(alloc),
             read_faults: 0,
@@ -69,6 +72,17 @@ impl<R: Files + Print + Drop> RealWorld<R> {
         Put::Failed
     }
 
+    /// Tells the notice what was written.
+    fn took(&mut self, put: Put) -> Put
+        ensures same { result ≡ put }
+        ensures rest { self.new ≡ self.old }
+    {
+        if let Put::Took(count) = put {
+            self.notice.wrote(count);
+        }
+        put
+    }
+
     /// Counts a fault of reading.
     fn read_fault(&mut self) -> Filled
         ensures failed { result ≡ Filled.Failed }
@@ -80,7 +94,7 @@ impl<R: Files + Print + Drop> RealWorld<R> {
     }
 }
 
-impl<R: Files + Print + Drop> World for RealWorld<R> {
+impl<R: Files + Print + Drop, N: Notice + Drop> World for RealWorld<R, N> {
     ghost use Rattle.world_real.specs.Real.{nothing_shown, real_ledger};
 
     ghost honest = { λ _ _. ⊥ };
@@ -175,7 +189,7 @@ impl<R: Files + Print + Drop> World for RealWorld<R> {
         if file == 0 {
             return match write_some(&mut io::writer(&self.rt), piece) {
                 Put::Failed => self.write_fault(),
-                put => put,
+                put => self.took(put),
             };
         }
         let RealFile::Writing(to) = &mut self.files[file as usize - 1] else {
@@ -183,7 +197,7 @@ impl<R: Files + Print + Drop> World for RealWorld<R> {
         };
         match write_some(to, piece) {
             Put::Failed => self.write_fault(),
-            put => put,
+            put => self.took(put),
         }
     }
 }

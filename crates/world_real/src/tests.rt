@@ -1,4 +1,4 @@
-use crate::{RealClock, RealWorld};
+use crate::{RealClock, RealWorld, Silence};
 use plain_text::Text;
 use std::marker::Sync;
 use std::test::Fail;
@@ -29,7 +29,7 @@ fn own_name(rt: &HostRuntime) -> Result<Text, Fail> {
 fn a_file_reads_back_as_it_was_written(rt: HostRuntime) -> Result<(), Fail> {
     let alloc = rt.alloc();
     let name = own_name(&rt)?;
-    let mut world = RealWorld::new(alloc, rt.clone()?);
+    let mut world = RealWorld::new(alloc, rt.clone()?, Silence);
     assert!(rt; matches!(world.open_file(&name), Err(OpenFault::Failed)));
     let created = world.create_file(&name)?;
     let wrote = write_all(&mut WorldSink::of(&mut world, created), TEXT);

@@ -3,7 +3,7 @@ use Rattle.input_files.proofs.OnlyReading.{OpensFirst-none}
 use Rattle.job_commands.specs.declared.status.Status.{Status}
 use Rattle.job_commands.specs.Status.{IsRefusal, stage_of}
 use Rattle.job_commands.specs.Words.{asked_of, check_names, check_names_of, drill_names, drill_names_of, live_names}
-use Rattle.job_commands.specs.Words.{live_names_of, made_of}
+use Rattle.job_commands.specs.Words.{live_names_of, made_of, trace_names, trace_names_of}
 use Rattle.job_commands.specs.Words.{make_names}
 use Rattle.job_commands.specs.Words.{names_of, play_names, play_names_of, run_names}
 use Rattle.job_commands.proofs.Outcomes.{made_completes, made_refuses, made_not_at_inputs}
@@ -13,13 +13,14 @@ use Rattle.job_commands.proofs.Finds.{check_completes}
 use Rattle.job_commands.proofs.Others.{run_others, made_others, play_others, check_others}
 use Rattle.job_top.proofs.Drills.{drill_completes, drill_others}
 use Rattle.job_top.proofs.Lives.{not_lives}
+use Rattle.job_top.proofs.Traced.{trace_completes, trace_others}
 use Rattle.job_top.proofs.top.serial.Goals as goal
 
 pub unreachable-requires : goal.unreachable-requires
 unreachable-requires g c =
     let words = c.args.words.now in
     not_lives (run_names words) (live_names words) (make_names words) (play_names words) (check_names words)
-    (drill_names words) (live_names_of c.in-Some-Live.field-0-0) c.requires.no_rounds
+    (drill_names words) (trace_names words) (live_names_of c.in-Some-Live.field-0-0) c.requires.no_rounds
     (c.in-Some-Live.ensures ∙ ap (λ z. Some (asked_of z)) c.in-Some-Live.field-0-is)
 
 pub returns-in-Some-Run-clause-done : goal.returns-in-Some-Run-clause-done
@@ -203,3 +204,40 @@ returns-in-Some-Drill-clause-opens_in_order g c =
 pub returns-in-Some-Drill-clause-opens_all : goal.returns-in-Some-Drill-clause-opens_all
 returns-in-Some-Drill-clause-opens_all g c done =
     rw (c.in-Some-Drill.ensures, c.in-Some-Drill.field-0-is) (c.drill.ensures.opens_all done)
+
+pub returns-in-Some-Trace-clause-done : goal.returns-in-Some-Trace-clause-done
+returns-in-Some-Trace-clause-done g c p q done =
+    rw (c.in-Some-Trace.ensures, c.in-Some-Trace.field-0-is) (c.trace.ensures.done p q done)
+
+pub returns-in-Some-Trace-clause-completes : goal.returns-in-Some-Trace-clause-completes
+returns-in-Some-Trace-clause-completes g c ok p q =
+    rw (c.in-Some-Trace.ensures, c.in-Some-Trace.field-0-is)
+    (λ accepted. trace_completes (g.W.World.healthy c.args.world.now) (trace_names_of c.in-Some-Trace.names)
+    (g.W.World.shows p c.args.world.now) ok accepted c.trace.result (c.trace.ensures.judged p q))
+
+pub returns-in-Some-Trace-clause-refused : goal.returns-in-Some-Trace-clause-refused
+returns-in-Some-Trace-clause-refused g c p q =
+    rw (c.in-Some-Trace.ensures, c.in-Some-Trace.field-0-is) (λ e. c.trace.ensures.refused p q e)
+
+pub returns-in-Some-Trace-clause-limit : goal.returns-in-Some-Trace-clause-limit
+returns-in-Some-Trace-clause-limit g c p q limit e =
+    rw (c.in-Some-Trace.ensures, c.in-Some-Trace.field-0-is) (λ stage. c.trace.ensures.limit p q limit e stage)
+
+pub returns-in-Some-Trace-clause-others : goal.returns-in-Some-Trace-clause-others
+returns-in-Some-Trace-clause-others g c p q =
+    rw (c.in-Some-Trace.ensures, c.in-Some-Trace.field-0-is) (trace_others (trace_names_of c.in-Some-Trace.names)
+    (g.W.World.shows p c.args.world.now) (g.W.World.shows p c.trace.new.world) (c.trace.ensures.in_order p q))
+
+pub returns-in-Some-Trace-clause-write_fault : goal.returns-in-Some-Trace-clause-write_fault
+returns-in-Some-Trace-clause-write_fault g c e = (c.trace.ensures.write_fault e).rose
+
+pub returns-in-Some-Trace-clause-never_fails : goal.returns-in-Some-Trace-clause-never_fails
+returns-in-Some-Trace-clause-never_fails g c ok e = (c.trace.ensures.write_fault e).not_healthy ok
+
+pub returns-in-Some-Trace-clause-opens_in_order : goal.returns-in-Some-Trace-clause-opens_in_order
+returns-in-Some-Trace-clause-opens_in_order g c =
+    rw (c.in-Some-Trace.ensures, c.in-Some-Trace.field-0-is) c.trace.ensures.opens_in_order
+
+pub returns-in-Some-Trace-clause-opens_all : goal.returns-in-Some-Trace-clause-opens_all
+returns-in-Some-Trace-clause-opens_all g c done =
+    rw (c.in-Some-Trace.ensures, c.in-Some-Trace.field-0-is) (c.trace.ensures.opens_all done)

@@ -1,0 +1,114 @@
+ghost use Rattle.std.specs.Prelude.{◌≡◌, ◌+◌, ◌<◌, ◌≤◌, ◌-◌, ◌^◌, Err, OnOk, IsErrOf};
+ghost use Rattle.plain_text.specs.declared.limit.Limit.{Limit as LimitKind};
+ghost use Rattle.world_io.specs.Stream.{Rose};
+ghost use Rattle.world_io.specs.World.{Start, WritingFailed};
+ghost use Rattle.input_files.specs.Files.{OpensAll, OpensFirst};
+ghost use Rattle.output_files.specs.Written.{WritesFiles};
+ghost use Rattle.run_writes.specs.Run.{CanRun, KeepsShown};
+ghost use Rattle.packet_trace.specs.Trace.{HasBegunTrace, HasStopped, HasTraced};
+ghost use Rattle.job_commands.specs.Run.{script_of, setting_for};
+ghost use Rattle.job_commands.specs.Status.{AtInputs, AtOutputs, IsRefusal, stage_of};
+ghost use Rattle.job_commands.specs.Status.{stage_of_limit};
+ghost use Rattle.job_commands.specs.Words.{run_inputs, trace_names_of, traced_run};
+ghost use Rattle.job_top.specs.Trace.{JudgesTrace, TracesInOrder, TracesToLimit, TracesWhole};
+ghost use Rattle.job_top.specs.Trace.{drop_register as drop_register_of};
+
+use box_conf::BoxKind;
+use job_commands::{Inputs, RunWords, Status, TraceWords, read_inputs, run_outcome};
+use packet_trace::run_trace;
+use plain_text::Text;
+use run_writes::{RunError, ScriptRun};
+use std::alloc::Global;
+use world_io::World;
+
+/// The register in which the box has the reason for which it drops a packet, when it ends it. None where it drops none.
+fn drop_register(kind: &BoxKind) -> Option<usize>
+    ensures { result ≡ drop_register_of kind.now }
+{
+    match kind {
+        BoxKind::Count(_) | BoxKind::Monitor(_) => None,
+        BoxKind::Nat(_) => Some(6),
+        BoxKind::Balancer(_) => Some(8),
+    }
+}
+
+/// Traces the packets through the run that the inputs ask for, and writes the table.
+fn trace_box<W: World>(
+    alloc: Global,
+    world: &mut W,
+    table: &Text,
+    inputs: Inputs,
+) -> Result<(), RunError>
+    requires inputs { CanRun (script_of inputs) }
+    requires room { (W.ledger world.old).given < 2 ^ 32 - 1 }
+    ensures whole { (p : Start) → W.honest p world.new → OnOk result (HasTraced
+        (drop_register_of inputs.conf.kind) (setting_for inputs) inputs.events table.now
+        (W.shows p world.old) (W.shows p world.new)) }
+    ensures limit { (p : Start) → W.honest p world.new → (limit : LimitKind)
+        → result ≡ Err (RunError.Limit limit) → HasStopped (setting_for inputs) inputs.events limit
+        (W.shows p world.old) (W.shows p world.new) }
+    ensures in_order { (p : Start) → W.honest p world.new → HasBegunTrace
+        (drop_register_of inputs.conf.kind) (setting_for inputs) inputs.events table.now
+        (W.shows p world.old) (W.shows p world.new) }
+    ensures writes_files { WritesFiles W.ledger W.healthy 1 world.old world.new }
+    ensures cause { IsErrOf result RunError.WriteFault
+        → WritingFailed W.ledger W.healthy world.old world.new }
+    ensures before { (p : Start) → W.honest p world.new → W.honest p world.old }
+{
+    let register = drop_register(&inputs.conf.kind);
+    let run = ScriptRun {
+        threads: inputs.conf.threads,
+        seed: inputs.conf.seed,
+        unit: inputs.capture.unit,
+        packets: inputs.capture.packets,
+        events: inputs.events,
+    };
+    match inputs.conf.kind {
+        BoxKind::Count(count) => run_trace(alloc, world, table, run, register, count),
+        BoxKind::Monitor(monitor) => run_trace(alloc, world, table, run, register, monitor),
+        BoxKind::Nat(nat) => run_trace(alloc, world, table, run, register, nat),
+        BoxKind::Balancer(balancer) => run_trace(alloc, world, table, run, register, balancer),
+    }
+}
+
+/// The command `trace`: all input files are judged before the table is created.
+pub(crate) fn trace<W: World>(alloc: Global, world: &mut W, names: TraceWords<'_>) -> Status
+    requires room { (W.ledger world.old).given < 2 ^ 31 }
+    ensures done { (p : Start) → W.honest p world.new → result ≡ Status.Done → TracesWhole
+        (trace_names_of names.entry) (W.shows p world.old) (W.shows p world.new) }
+    ensures limit { (p : Start) → W.honest p world.new → (limit : LimitKind)
+        → result ≡ Status.TooLarge limit → stage_of_limit limit ≡ AtOutputs → TracesToLimit
+        (trace_names_of names.entry) limit (W.shows p world.old) (W.shows p world.new) }
+    ensures judged { (p : Start) → W.honest p world.new → JudgesTrace (W.healthy world.old)
+        (trace_names_of names.entry) result (W.shows p world.old) }
+    ensures in_order { (p : Start) → W.honest p world.new → TracesInOrder
+        (trace_names_of names.entry) (W.shows p world.old) (W.shows p world.new) }
+    ensures refused { (p : Start) → W.honest p world.new → stage_of result ≡ AtInputs
+        → KeepsShown (W.shows p world.old) (W.shows p world.new) }
+    ensures creates_nothing { IsRefusal result
+        → (W.ledger world.new).created ≡ (W.ledger world.old).created }
+    ensures words { result ≡ Status.BadWords → ⊥ }
+    ensures opens_in_order { OpensFirst (run_inputs (traced_run (trace_names_of names.entry)))
+        (W.ledger world.old) (W.ledger world.new) }
+    ensures opens_all { result ≡ Status.Done → OpensAll (run_inputs (traced_run
+        (trace_names_of names.entry))) (W.ledger world.old) (W.ledger world.new) }
+    ensures given { (W.ledger world.new).given ≤ (W.ledger world.old).given + 4 }
+    ensures read_fault { result ≡ Status.ReadFault
+        → Rose (W.ledger world.old).read_faults (W.ledger world.new).read_faults }
+    ensures write_fault { result ≡ Status.WriteFault
+        → WritingFailed W.ledger W.healthy world.old world.new }
+    ensures before { (p : Start) → W.honest p world.new → W.honest p world.old }
+{
+    // The outputs of the run are not written: the table stands for both.
+    let run = RunWords {
+        box_file: names.box_file,
+        capture: names.capture,
+        script: names.script,
+        released: names.table,
+        schedule: names.table,
+    };
+    match read_inputs(alloc, world, run) {
+        Ok(inputs) => run_outcome(trace_box(alloc, world, names.table, inputs)),
+        Err(status) => status,
+    }
+}
