@@ -19,7 +19,7 @@ use Rattle.nat_tables.specs.Ports.{one_if}
 use Rattle.nat_tables.specs.Forwards.{Forwards, is_idle, slot_of, refreshed, refresh, first_idle, found_there, found}
 use Rattle.nat_tables.specs.Forwards.{bound, lives, total}
 use Rattle.nat_tables.proofs.Counting.{total_refresh, total_without, total_without_idle, total_append}
-use Rattle.nat_box.proofs.Summing.{one_changes, sum_of_none}
+use Rattle.flow_boxes.proofs.Summing.{one_changes, sum_of_none}
 use Rattle.nat_tables.specs.declared.entries.Endpoint.{Endpoint}
 use Rattle.nat_tables.specs.declared.slot.Slot.{Slot}
 use Rattle.balancer_box.specs.declared.place.Place.{Place}

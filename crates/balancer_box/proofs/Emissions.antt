@@ -23,9 +23,10 @@ use Rattle.plain_machine.proofs.Bounds.{values_fit}
 use Rattle.nat_tables.specs.Keys.{same_endpoint}
 use Rattle.nat_tables.specs.Forwards.{Forwards, slot_of, refresh, refreshed, is_idle, first_idle, found_there, found}
 use Rattle.nat_tables.specs.Forwards.{bound, lives}
-use Rattle.nat_box.specs.Nat.{reason_of}
-use Rattle.nat_box.specs.Emissions.{HaveBytes}
-use Rattle.nat_box.proofs.HeldInputs.{IsHeld, move_holds, run_holds}
+use Rattle.flow_boxes.specs.Drops.{reason_of}
+use Rattle.flow_boxes.specs.Flows.{HaveBytes, source_of, dest_of}
+use Rattle.flow_boxes.proofs.Fitting.{IsWhole, whole, same_self}
+use Rattle.flow_boxes.proofs.HeldInputs.{IsHeld, move_holds, run_holds}
 use Rattle.nat_tables.specs.declared.entries.Endpoint.{Endpoint}
 use Rattle.nat_tables.specs.declared.slot.Slot.{Slot}
 use Rattle.balancer_box.specs.declared.place.Place.{Place}
@@ -48,8 +49,8 @@ use Rattle.balancer_box.specs.Balancer.{after_find, after_bind, after_check, tou
 use Rattle.balancer_box.specs.Balancer.{frame_out, local_at, noted_by, balancer_meaning, Fits}
 use Rattle.balancer_box.specs.Noting.{place_again, IsNoted, is_noted, noted_again}
 use Rattle.balancer_box.specs.Lawful.{AreSettings, var_of, touches_it, below_all, balancer_lawful}
-use Rattle.balancer_box.specs.Emissions.{Trail, no_trail, trail_of_touch, trail_by, trail_of, naming, source_of}
-use Rattle.balancer_box.specs.Emissions.{dest_of, WasConnected, Lived, ReachesBackend, ComesFromVirtual, IsSentOnOf}
+use Rattle.balancer_box.specs.Emissions.{Trail, no_trail, trail_of_touch, trail_by, trail_of, naming}
+use Rattle.balancer_box.specs.Emissions.{WasConnected, Lived, ReachesBackend, ComesFromVirtual, IsSentOnOf}
 use Rattle.balancer_box.specs.Emissions.{EmissionsFollowConnections}
 use Rattle.balancer_box.proofs.ConnectionLemmas.{slot_refreshed, slot_appended}
 use Rattle.balancer_box.proofs.Noting.{touched_noted, told_noted}
@@ -57,7 +58,7 @@ use Rattle.balancer_box.proofs.Making.{goes_on, comes_to, Made, made}
 
 -- What is known of a packet in hand
 
-abbrev IsOf : Settings → Flow → Noted → Class → Type 0
+abbrev pub IsOf : Settings → Flow → Noted → Class → Type 0
 IsOf s flow n Client = (is_virtual s flow.dest flow.dest_port ≡ true) × (n.client ≡ source_of flow)
 IsOf s flow n Answer =
     (is_virtual s flow.dest flow.dest_port ≡ false)
@@ -261,30 +262,7 @@ module _ (s : Settings) (p : Packet) where
 
 -- The beginning
 
-record IsWhole (flow : Flow) : Type 0 where
-  protocol : flow.protocol < 2 ^ 8
-  source : flow.source < 2 ^ 32
-  source_port : flow.source_port < 2 ^ 16
-  dest : flow.dest < 2 ^ 32
-  dest_port : flow.dest_port < 2 ^ 16
-
-word_fits : (frame : List ℕ) (place : ℕ) → AreBytes frame → word_at frame place < 2 ^ 16
-word_fits frame place bytes = let a = bytes place in let b = bytes (place + 1) in omega arith
-
-long_fits : (frame : List ℕ) (place : ℕ) → AreBytes frame → long_at frame place < 2 ^ 32
-long_fits frame place bytes =
-    let a = word_fits frame place bytes in let b = word_fits frame (place + 2) bytes in omega arith
-
-whole : (frame : List ℕ) → AreBytes frame → IsWhole (flow_of frame)
-whole frame bytes = record {
-  protocol = bytes 23;
-  source = long_fits frame 26 bytes;
-  source_port = word_fits frame (header_end frame) bytes;
-  dest = long_fits frame 30 bytes;
-  dest_port = word_fits frame (header_end frame + 2) bytes;
-}
-
-backend_below : (bs : List Backend) (address port k : ℕ) → backend_at bs address port ≡ Some k → k < length bs
+pub backend_below : (bs : List Backend) (address port k : ℕ) → backend_at bs address port ≡ Some k → k < length bs
 backend_below bs address port k e = by (nat_lt at (length bs)) refl e
   where
     at : ℕ
@@ -295,7 +273,7 @@ backend_below bs address port k e = by (nat_lt at (length bs)) refl e
     by false q e = absurd (cc)
 
 module _ (s : Settings) (is : AreSettings s) where
-  client_noted : (flow : Flow) → IsWhole flow → IsNoted (length s.backends) (of_client flow)
+  pub client_noted : (flow : Flow) → IsWhole flow → IsNoted (length s.backends) (of_client flow)
   client_noted flow w = record {
     protocol = w.protocol;
     address = w.source;
@@ -304,7 +282,7 @@ module _ (s : Settings) (is : AreSettings s) where
     spare = omega (arith, is.some_backends);
   }
 
-  answer_noted : (flow : Flow) (k : ℕ) → k < length s.backends → IsWhole flow
+  pub answer_noted : (flow : Flow) (k : ℕ) → k < length s.backends → IsWhole flow
       → IsNoted (length s.backends) (of_answer flow k)
   answer_noted flow k low w = record {
     protocol = w.protocol;
@@ -314,7 +292,7 @@ module _ (s : Settings) (is : AreSettings s) where
     spare = omega (arith, is.some_backends);
   }
 
-  nothing_is_noted : (reason : ℕ) → IsNoted (length s.backends) (nothing_noted reason)
+  pub nothing_is_noted : (reason : ℕ) → IsNoted (length s.backends) (nothing_noted reason)
   nothing_is_noted reason = record {
     protocol = omega arith;
     address = omega arith;
@@ -352,12 +330,6 @@ module _ (s : Settings) (is : AreSettings s) where
           rw v (known_on s no_trail (hand (goes HearsTime (of_client flow))) (goes HearsTime (of_client flow))
           (client_noted flow w) (record { flow = flow; seen = seen; reset = refl; of = (v, refl) }))
       by false v w = rw v (by_backend (backend_at s.backends flow.source flow.source_port) refl v w)
-
-same_self : (e : Endpoint) → same_endpoint e e ≡ true
-same_self e =
-    let a : (e.protocol == e.protocol) ≡ true = is_eq e.protocol e.protocol refl in
-    let b : (e.address == e.address) ≡ true = is_eq e.address e.address refl in
-    let c : (e.port == e.port) ≡ true = is_eq e.port e.port refl in rw (a, b, c) refl
 
 -- Each move
 

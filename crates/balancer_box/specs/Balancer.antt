@@ -16,7 +16,7 @@ use Rattle.nat_tables.specs.declared.entries.Find.TheVariants.{Live, Absent}
 use Rattle.nat_tables.specs.declared.entries.Bind.{Bind}
 use Rattle.nat_tables.specs.declared.entries.Bind.TheVariants.{Bound, Other}
 use Rattle.nat_tables.specs.Forwards.{find_or_bind, AreMappings}
-use Rattle.nat_box.specs.Nat.{reason_of, with_drop, no_drops}
+use Rattle.flow_boxes.specs.Drops.{reason_of, with_drop, no_drops}
 use Rattle.balancer_box.specs.declared.backends.Backend.{Backend}
 use Rattle.balancer_box.specs.declared.place.Place.{Place}
 use Rattle.balancer_box.specs.declared.place.Place.TheVariants.{HearsTime, FindsConnection, LowersIdle, RaisesLeast}
@@ -30,7 +30,8 @@ use Rattle.balancer_box.specs.declared.value.BalancerValue.{BalancerValue}
 use Rattle.balancer_box.specs.declared.value.BalancerValue.TheVariants.{Dropped, Loaded, Connected}
 use Rattle.balancer_box.specs.Loads.{raised, lowered, least_loaded, no_loads}
 use Rattle.balancer_box.specs.Connections.{find_connection, check_connection}
-use Rattle.balancer_box.specs.Places.{place_numbered, noted, local_of, endpoint}
+use Rattle.flow_boxes.specs.Flows.{endpoint}
+use Rattle.balancer_box.specs.Places.{place_numbered, noted, local_of}
 use Rattle.balancer_box.specs.Shown.{shown_value}
 
 pub record Settings : Type 0 where
@@ -77,9 +78,6 @@ moves_left Ends = 0
 
 abbrev pub no_connection : ℕ
 no_connection = 7
-
-abbrev pub stray : ℕ
-stray = 9
 
 -- the control bit RST, which only TCP has (RFC 9293, section 3.1)
 abbrev pub resets : Flow → Bool

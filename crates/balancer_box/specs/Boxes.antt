@@ -2,7 +2,7 @@
 use Rattle.std.specs.Prelude.{ℕ, ◌≤◌, min, max, List, [], ◌∷◌, length, take}
 use Rattle.std.proofs.Common.{arith, length-take}
 use Rattle.plain_machine.specs.Program.{Meaning, IsLawful}
-use Rattle.nat_box.specs.Boxes.{at_least, at_most, one_of_64}
+use Rattle.flow_boxes.specs.Ranges.{at_least, at_most, one_of_64}
 use Rattle.balancer_box.specs.declared.backends.Backend.{Backend}
 use Rattle.balancer_box.specs.declared.balancer.BalancerBox.{BalancerBox}
 use Rattle.balancer_box.specs.declared.value.BalancerValue.{BalancerValue}

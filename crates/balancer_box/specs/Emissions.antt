@@ -13,11 +13,10 @@ use Rattle.plain_machine.specs.History.{Act, Took, Did, Emitted, Ended, Step, va
 use Rattle.nat_tables.specs.declared.entries.Endpoint.{Endpoint}
 use Rattle.nat_tables.specs.declared.slot.Slot.{Slot}
 use Rattle.nat_tables.specs.Forwards.{Forwards, slot_of, lives}
-use Rattle.nat_box.specs.Emissions.{HaveBytes}
+use Rattle.flow_boxes.specs.Flows.{HaveBytes, source_of, dest_of}
 use Rattle.balancer_box.specs.declared.backends.Backend.{Backend}
 use Rattle.balancer_box.specs.declared.value.BalancerValue.{BalancerValue}
 use Rattle.balancer_box.specs.declared.value.BalancerValue.TheVariants.{Dropped, Loaded, Connected}
-use Rattle.balancer_box.specs.Places.{endpoint}
 use Rattle.balancer_box.specs.Balancer.{Settings, is_virtual, backend_at, resets, balancer_meaning}
 use Rattle.balancer_box.specs.Lawful.{AreSettings}
 
@@ -64,12 +63,6 @@ trail_of s t (x ∷ earlier) =
 abbrev pub naming : Trail → Bool → Option Forwards
 naming r true = r.found
 naming r false = r.left
-
-abbrev pub source_of : Flow → Endpoint
-source_of flow = endpoint flow.protocol flow.source flow.source_port
-
-abbrev pub dest_of : Flow → Endpoint
-dest_of flow = endpoint flow.protocol flow.dest flow.dest_port
 
 -- the client was connected to the backend of this number at the packet's last touch of its table
 abbrev pub WasConnected : Option Forwards → Endpoint → ℕ → Type 0

@@ -2,6 +2,7 @@
 use Rattle.std.specs.Prelude.{ℕ, ◌%◌, ◌^◌, Bool, true, false, ◌==◌, if◌then◌else◌, [], ◌∷◌, slice_index}
 use Rattle.plain_machine.specs.declared.local.Local.{Local}
 use Rattle.nat_tables.specs.declared.entries.Endpoint.{Endpoint}
+use Rattle.flow_boxes.specs.Flows.{endpoint}
 use Rattle.balancer_box.specs.declared.place.Place.{Place}
 use Rattle.balancer_box.specs.declared.place.Place.TheVariants.{HearsTime, FindsConnection, LowersIdle, RaisesLeast}
 use Rattle.balancer_box.specs.declared.place.Place.TheVariants.{Connects, LowersSpare, ChecksConnection, CountsDrop}
@@ -39,9 +40,6 @@ class_of number = if number == 0 then Client else Answer
 abbrev pub number_of_flag : Bool → ℕ
 number_of_flag true = 1
 number_of_flag false = 0
-
-abbrev pub endpoint : ℕ → ℕ → ℕ → Endpoint
-endpoint protocol address port = record { protocol = protocol; address = address; port = port }
 
 -- what the Local has noted, with this number of backends
 abbrev pub noted : ℕ → Local → Noted

@@ -1,7 +1,7 @@
 -- The texts that show the variables to an operator.
 use Rattle.std.specs.Prelude.{ℕ, List, [], ◌∷◌, ◌++◌, codes, decimal}
 use Rattle.nat_tables.specs.Shown.{mappings_text}
-use Rattle.nat_box.specs.Shown.{drops_text}
+use Rattle.flow_boxes.specs.Shown.{drops_text}
 use Rattle.balancer_box.specs.declared.value.BalancerValue.{BalancerValue}
 use Rattle.balancer_box.specs.declared.value.BalancerValue.TheVariants.{Dropped, Loaded, Connected}
 

@@ -4,7 +4,7 @@ ghost use Rattle.balancer_box.specs.Boxes.{settings_of};
 
 use crate::{BalancerBox, BalancerValue, Connections, Goes, Loads, Noted, Place};
 use box_program::{Local, Move, Program};
-use nat_box::Drops;
+use flow_boxes::Drops;
 use packet_headers::view;
 use plain_text::{Bytes, NoMemory, Packet, Text};
 use std::alloc::Global;

@@ -1,11 +1,11 @@
 ghost use Rattle.std.specs.Prelude.{◌≡◌, IfOk, slice_get};
 ghost use Rattle.packet_headers.specs.Rewriting.{CanRewrite};
-ghost use Rattle.nat_box.specs.Nat.{reason_of};
 ghost use Rattle.balancer_box.specs.Balancer.{begun, begun_flow, frame_to, frame_out, bytes_out};
 ghost use Rattle.balancer_box.specs.Balancer.{of_client, of_answer, resets, nothing_noted};
 ghost use Rattle.balancer_box.specs.Boxes.{settings_of};
 
 use crate::{Backend, BalancerBox, Class, Goes, Noted, Place};
+use flow_boxes::{STRAY, reason_of};
 use nat_tables::Endpoint;
 use packet_headers::{Flow, NotFlow, set_dest, set_source};
 use plain_text::{Bytes, HEADER_ROOM, NoMemory, copy_with_room};
@@ -13,23 +13,6 @@ use std::alloc::Global;
 
 /// The control bit RST of TCP (RFC 9293, section 3.1).
 const RST: u8 = 4;
-
-/// The reason for which a packet is dropped that is of no class.
-const STRAY: u64 = 9;
-
-/// The reason for which a packet is dropped that is no flow.
-fn reason_of(answer: NotFlow) -> u64
-    ensures { result ≡ reason_of answer }
-{
-    match answer {
-        NotFlow::Short => 1,
-        NotFlow::NotIpv4 => 2,
-        NotFlow::BadHeaderLength => 3,
-        NotFlow::Fragment => 4,
-        NotFlow::OtherProtocol => 5,
-        NotFlow::BadTotalLength => 6,
-    }
-}
 
 impl Noted {
     /// Nothing is noted but the reason for which the packet is dropped.

@@ -5,7 +5,7 @@ ghost use Rattle.balancer_box.specs.declared.value.BalancerValue.TheVariants.{Dr
 ghost use Rattle.balancer_box.specs.declared.value.BalancerValue.TheVariants.{Connected};
 
 use crate::{Class, Connections, Goes, Loads, Noted, Place};
-use nat_box::Drops;
+use flow_boxes::Drops;
 use nat_tables::{Bind, Find};
 use plain_text::NoMemory;
 

@@ -1,5 +1,5 @@
 use crate::{Connections, Loads};
-use nat_box::Drops;
+use flow_boxes::Drops;
 
 /// The value of a variable of the box `balancer`.
 #[derive(Debug, Drop)]

@@ -9,7 +9,8 @@ use Rattle.nat_tables.specs.declared.entries.Endpoint.{Endpoint}
 use Rattle.nat_tables.specs.declared.slot.Slot.{Slot}
 use Rattle.nat_tables.specs.Forwards.{timer, is_idle, slot_of, lives_at}
 use Rattle.balancer_box.specs.Balancer.{is_virtual, backend_at}
-use Rattle.balancer_box.specs.Emissions.{Trail, trail_of, dest_of, Lived, IsSentOnOf}
+use Rattle.flow_boxes.specs.Flows.{dest_of}
+use Rattle.balancer_box.specs.Emissions.{Trail, trail_of, Lived, IsSentOnOf}
 use Rattle.balancer_box.proofs.Emissions.{emissions_follow}
 use Rattle.balancer_runs.specs.Answering.{IsBusyAt, MetBusy, AnswersComeBeforeIdle}
 

@@ -21,8 +21,8 @@ use Rattle.nat_tables.specs.declared.entries.Endpoint.{Endpoint}
 use Rattle.nat_tables.specs.declared.slot.Slot.{Slot}
 use Rattle.nat_tables.specs.Forwards.{Forwards, slot_of, is_idle, first_idle, found_there, found, bound, lives_at}
 use Rattle.nat_tables.specs.Forwards.{lives}
-use Rattle.nat_box.specs.Nat.{reason_of}
-use Rattle.nat_box.specs.Emissions.{HaveBytes}
+use Rattle.flow_boxes.specs.Drops.{reason_of}
+use Rattle.flow_boxes.specs.Flows.{HaveBytes, source_of, dest_of}
 use Rattle.balancer_box.specs.declared.place.Place.{Place}
 use Rattle.balancer_box.specs.declared.place.Place.TheVariants.{HearsTime, FindsConnection, LowersIdle, RaisesLeast}
 use Rattle.balancer_box.specs.declared.place.Place.TheVariants.{Connects, LowersSpare, ChecksConnection, CountsDrop}
@@ -43,23 +43,18 @@ use Rattle.balancer_box.specs.Balancer.{after_find, after_bind, after_check, tou
 use Rattle.balancer_box.specs.Balancer.{noted_by, balancer_meaning, Fits}
 use Rattle.balancer_box.specs.Noting.{place_again, IsNoted, is_noted, noted_again}
 use Rattle.balancer_box.specs.Lawful.{AreSettings, var_of, touches_it, below_all, balancer_lawful}
-use Rattle.balancer_box.specs.Emissions.{Trail, no_trail, trail_of_touch, trail_by, trail_of, source_of, dest_of}
+use Rattle.balancer_box.specs.Emissions.{Trail, no_trail, trail_of_touch, trail_by, trail_of}
 use Rattle.balancer_box.proofs.LoadLemmas.{has_least}
 use Rattle.balancer_box.proofs.Noting.{touched_noted, told_noted}
 use Rattle.balancer_box.proofs.Making.{goes_on, Made, made}
+use Rattle.balancer_box.proofs.Emissions.{IsOf, backend_below, client_noted, answer_noted, nothing_is_noted}
+use Rattle.flow_boxes.proofs.Fitting.{IsWhole, whole}
 use Rattle.balancer_runs.specs.Staying.{HasReset}
 use Rattle.balancer_runs.specs.Causes.{HasNone, HasNoneTo, HasCause}
 use Rattle.balancer_runs.specs.Choosing.{loads_met_in, loads_met_by, loads_met, WasChosen}
 use Rattle.balancer_runs.proofs.Tables.{idle_is}
 
 -- whose packet it is
-abbrev pub IsOf : Settings → Flow → Noted → Class → Type 0
-IsOf s flow n Client = (is_virtual s flow.dest flow.dest_port ≡ true) × (n.client ≡ source_of flow)
-IsOf s flow n Answer =
-    (is_virtual s flow.dest flow.dest_port ≡ false)
-    × (n.client ≡ dest_of flow)
-    × (backend_at s.backends flow.source flow.source_port ≡ Some n.backend)
-
 pub record IsBase (s : Settings) (p : Packet) (n : Noted) : Type 0 where
   pub flow : Flow
   pub seen : viewed p.bytes p.original ≡ Ok flow
@@ -312,73 +307,12 @@ module _ (s : Settings) (p : Packet) where
 
 -- The beginning: the fields of a frame of bytes fit
 
-record IsWhole (flow : Flow) : Type 0 where
-  protocol : flow.protocol < 2 ^ 8
-  source : flow.source < 2 ^ 32
-  source_port : flow.source_port < 2 ^ 16
-  dest : flow.dest < 2 ^ 32
-  dest_port : flow.dest_port < 2 ^ 16
-
-word_fits : (frame : List ℕ) (place : ℕ) → AreBytes frame → word_at frame place < 2 ^ 16
-word_fits frame place bytes = let a = bytes place in let b = bytes (place + 1) in omega arith
-
-long_fits : (frame : List ℕ) (place : ℕ) → AreBytes frame → long_at frame place < 2 ^ 32
-long_fits frame place bytes =
-    let a = word_fits frame place bytes in let b = word_fits frame (place + 2) bytes in omega arith
-
-whole : (frame : List ℕ) → AreBytes frame → IsWhole (flow_of frame)
-whole frame bytes = record {
-  protocol = bytes 23;
-  source = long_fits frame 26 bytes;
-  source_port = word_fits frame (header_end frame) bytes;
-  dest = long_fits frame 30 bytes;
-  dest_port = word_fits frame (header_end frame + 2) bytes;
-}
-
-backend_below : (bs : List Backend) (address port k : ℕ) → backend_at bs address port ≡ Some k → k < length bs
-backend_below bs address port k e = by (nat_lt at (length bs)) refl e
-  where
-    at : ℕ
-    at = position_or_len (λ b. (b.address == address) && (b.port == port)) bs
-
-    by : (t : Bool) → nat_lt at (length bs) ≡ t → cond t (Some at) None ≡ Some k → k < length bs
-    by true q e = let same : at ≡ k = cc in let low : at < length bs = grind (arith, nat_tests) in omega arith
-    by false q e = absurd (cc)
-
 module _ (s : Settings) (is : AreSettings s) where
-  client_noted : (flow : Flow) → IsWhole flow → IsNoted (length s.backends) (of_client flow)
-  client_noted flow w = record {
-    protocol = w.protocol;
-    address = w.source;
-    port = w.source_port;
-    backend = omega (arith, is.some_backends);
-    spare = omega (arith, is.some_backends);
-  }
-
-  answer_noted : (flow : Flow) (k : ℕ) → k < length s.backends → IsWhole flow
-      → IsNoted (length s.backends) (of_answer flow k)
-  answer_noted flow k low w = record {
-    protocol = w.protocol;
-    address = w.dest;
-    port = w.dest_port;
-    backend = low;
-    spare = omega (arith, is.some_backends);
-  }
-
-  nothing_is_noted : (reason : ℕ) → IsNoted (length s.backends) (nothing_noted reason)
-  nothing_is_noted reason = record {
-    protocol = omega arith;
-    address = omega arith;
-    port = omega arith;
-    backend = omega (arith, is.some_backends);
-    spare = omega (arith, is.some_backends);
-  }
-
   begun_known : (p : Packet) (seen : Result Flow NotFlow) → AreBytes p.bytes → viewed p.bytes p.original ≡ seen
       → Known s no_trail None (Some (record { packet = p; place = local_at (begun s seen) }))
   begun_known p (Err why) bytes q =
       known_on s no_trail None (record { packet = p; place = local_at (begun s (Err why)) }) (begun s (Err why))
-      (nothing_is_noted (reason_of why)) (inl (why, q, refl))
+      (nothing_is_noted s is (reason_of why)) (inl (why, q, refl))
   begun_known p (Ok flow) bytes seen =
       let same : flow_of p.bytes ≡ flow = (pass_from_ok (failures p.bytes p.original) (flow_of p.bytes) flow seen).1 in
       let w : IsWhole flow = subst IsWhole same (whole p.bytes bytes) in
@@ -391,18 +325,18 @@ module _ (s : Settings) (is : AreSettings s) where
           → is_virtual s flow.dest flow.dest_port ≡ false → IsWhole flow
           → Known s no_trail None (Some (hand (begun_answer flow o)))
       by_backend None q v w =
-          known_on s no_trail None (hand (begun_answer flow None)) (begun_answer flow None) (nothing_is_noted 9)
+          known_on s no_trail None (hand (begun_answer flow None)) (begun_answer flow None) (nothing_is_noted s is 9)
           (inr (flow, seen, inl (refl, (v, q))))
       by_backend (Some k) q v w =
           known_on s no_trail None (hand (begun_answer flow (Some k))) (begun_answer flow (Some k))
-          (answer_noted flow k (backend_below s.backends flow.source flow.source_port k q) w)
+          (answer_noted s is flow k (backend_below s.backends flow.source flow.source_port k q) w)
           (record { flow = flow; seen = seen; reset = refl; of = (v, refl, q) })
 
       by : (b : Bool) → is_virtual s flow.dest flow.dest_port ≡ b → IsWhole flow
           → Known s no_trail None (Some (hand (begun_flow s flow)))
       by true v w =
           rw v (known_on s no_trail None (hand (goes HearsTime (of_client flow))) (goes HearsTime (of_client flow))
-          (client_noted flow w) (record { flow = flow; seen = seen; reset = refl; of = (v, refl) }))
+          (client_noted s is flow w) (record { flow = flow; seen = seen; reset = refl; of = (v, refl) }))
       by false v w = rw v (by_backend (backend_at s.backends flow.source flow.source_port) refl v w)
 
 -- Each move

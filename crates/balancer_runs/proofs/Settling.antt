@@ -21,7 +21,7 @@ use Rattle.nat_tables.specs.declared.entries.Bind.{Bind}
 use Rattle.nat_tables.specs.declared.entries.Bind.TheVariants.{Bound, Other}
 use Rattle.nat_tables.specs.Forwards.{find_or_bind}
 use Rattle.nat_tables.specs.Ports.{one_if}
-use Rattle.nat_box.specs.Nat.{reason_of}
+use Rattle.flow_boxes.specs.Drops.{reason_of}
 use Rattle.balancer_box.specs.declared.place.Place.{Place}
 use Rattle.balancer_box.specs.declared.place.Place.TheVariants.{HearsTime, FindsConnection, LowersIdle, RaisesLeast}
 use Rattle.balancer_box.specs.declared.place.Place.TheVariants.{Connects, LowersSpare, ChecksConnection, CountsDrop}

@@ -12,9 +12,9 @@ use Rattle.plain_machine.specs.History.{Step, act_of, left_by, thread_after, val
 use Rattle.plain_machine.proofs.Histories.{not_eq, is_eq}
 use Rattle.plain_machine.proofs.Bounds.{values_fit}
 use Rattle.nat_tables.specs.Ports.{one_if}
-use Rattle.nat_box.specs.declared.value.Drops.{Drops}
-use Rattle.nat_box.specs.Nat.{with_drop}
-use Rattle.nat_box.proofs.Summing.{one_changes, sum_of_none}
+use Rattle.flow_boxes.specs.declared.drops.Drops.{Drops}
+use Rattle.flow_boxes.specs.Drops.{with_drop}
+use Rattle.flow_boxes.proofs.Summing.{one_changes, sum_of_none}
 use Rattle.balancer_box.specs.declared.place.Place.{Place}
 use Rattle.balancer_box.specs.declared.place.Place.TheVariants.{CountsDrop, Ends}
 use Rattle.balancer_box.specs.declared.place.Noted.{Noted}

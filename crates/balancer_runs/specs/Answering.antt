@@ -8,11 +8,11 @@ use Rattle.plain_machine.specs.History.{Emitted, Step, IsHistory}
 use Rattle.nat_tables.specs.declared.entries.Endpoint.{Endpoint}
 use Rattle.nat_tables.specs.declared.slot.Slot.{Slot}
 use Rattle.nat_tables.specs.Forwards.{Forwards, slot_of}
-use Rattle.nat_box.specs.Emissions.{HaveBytes}
+use Rattle.flow_boxes.specs.Flows.{HaveBytes, dest_of}
 use Rattle.balancer_box.specs.declared.value.BalancerValue.{BalancerValue}
 use Rattle.balancer_box.specs.Balancer.{Settings, is_virtual, backend_at, balancer_meaning}
 use Rattle.balancer_box.specs.Lawful.{AreSettings}
-use Rattle.balancer_box.specs.Emissions.{Trail, trail_of, dest_of}
+use Rattle.balancer_box.specs.Emissions.{Trail, trail_of}
 
 -- a connection is not idle yet at this time: less than 7,440 s after its last use with TCP (RFC 5382, REQ-5), or 300 s
 -- with UDP (RFC 4787, REQ-5), in microseconds

@@ -12,12 +12,12 @@ use Rattle.plain_machine.specs.History.{Did, Step, thread_after, value_after, Is
 use Rattle.nat_tables.specs.declared.entries.Endpoint.{Endpoint}
 use Rattle.nat_tables.specs.declared.slot.Slot.{Slot}
 use Rattle.nat_tables.specs.Forwards.{Forwards, slot_of}
-use Rattle.nat_box.specs.Nat.{reason_of}
-use Rattle.nat_box.specs.Emissions.{HaveBytes}
+use Rattle.flow_boxes.specs.Drops.{reason_of, stray}
+use Rattle.flow_boxes.specs.Flows.{HaveBytes, source_of, dest_of}
 use Rattle.balancer_box.specs.declared.value.BalancerValue.{BalancerValue}
-use Rattle.balancer_box.specs.Balancer.{Settings, is_virtual, backend_at, no_connection, stray, balancer_meaning}
+use Rattle.balancer_box.specs.Balancer.{Settings, is_virtual, backend_at, no_connection, balancer_meaning}
 use Rattle.balancer_box.specs.Lawful.{AreSettings}
-use Rattle.balancer_box.specs.Emissions.{Trail, trail_of, source_of, dest_of}
+use Rattle.balancer_box.specs.Emissions.{Trail, trail_of}
 use Rattle.balancer_runs.specs.Packets.{drop_counts}
 use Rattle.balancer_runs.specs.Staying.{IsIdleAt, HasReset}
 

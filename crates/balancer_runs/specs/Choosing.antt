@@ -12,14 +12,14 @@ use Rattle.plain_machine.specs.History.{Act, Took, Did, Emitted, Ended, Step, th
 use Rattle.nat_tables.specs.declared.entries.Endpoint.{Endpoint}
 use Rattle.nat_tables.specs.declared.slot.Slot.{Slot}
 use Rattle.nat_tables.specs.Forwards.{slot_of}
-use Rattle.nat_box.specs.Emissions.{HaveBytes}
+use Rattle.flow_boxes.specs.Flows.{HaveBytes, source_of}
 use Rattle.balancer_box.specs.declared.value.BalancerValue.{BalancerValue}
 use Rattle.balancer_box.specs.declared.value.BalancerValue.TheVariants.{Dropped, Loaded, Connected}
 use Rattle.balancer_box.specs.Loads.{raised, lowered, HasLeastLoad}
 use Rattle.balancer_box.specs.Balancer.{Settings, is_virtual, balancer_meaning}
 use Rattle.balancer_box.specs.Lawful.{AreSettings}
 use Rattle.balancer_box.specs.Entries.{connections_in}
-use Rattle.balancer_box.specs.Emissions.{trail_of, source_of}
+use Rattle.balancer_box.specs.Emissions.{trail_of}
 
 -- The loads (variable 1) as the newest touch of them by the thread's packet in hand found them and left them; a take
 -- begins anew

@@ -9,12 +9,12 @@ use Rattle.plain_machine.specs.History.{Step, thread_after, value_after, IsHisto
 use Rattle.nat_tables.specs.declared.entries.Endpoint.{Endpoint}
 use Rattle.nat_tables.specs.declared.slot.Slot.{Slot}
 use Rattle.nat_tables.specs.Forwards.{slot_of}
-use Rattle.nat_box.specs.Emissions.{HaveBytes}
+use Rattle.flow_boxes.specs.Flows.{HaveBytes, source_of, dest_of}
 use Rattle.balancer_box.specs.declared.value.BalancerValue.{BalancerValue}
 use Rattle.balancer_box.specs.Balancer.{Settings, is_virtual, backend_at, balancer_meaning}
 use Rattle.balancer_box.specs.Lawful.{AreSettings}
 use Rattle.balancer_box.specs.Entries.{connections_in}
-use Rattle.balancer_box.specs.Emissions.{trail_of, source_of, dest_of}
+use Rattle.balancer_box.specs.Emissions.{trail_of}
 
 -- a connection is idle at this time: 7,440 s after its last use with TCP (RFC 5382, REQ-5), and 300 s with UDP (RFC
 -- 4787, REQ-5), in microseconds

@@ -36,42 +36,23 @@ use Rattle.nat_box.specs.declared.place.Class.TheVariants.{Outbound, Hairpin, In
 use Rattle.nat_box.specs.declared.place.Noted.{Noted}
 use Rattle.nat_box.specs.declared.value.NatValue.{NatValue}
 use Rattle.nat_box.specs.declared.value.NatValue.TheVariants.{Dropped, Free, Mapped, Taken}
-use Rattle.nat_box.specs.Places.{place_numbered, noted, source_key, dest_key, endpoint}
+use Rattle.flow_boxes.specs.Flows.{endpoint, source_of, HaveBytes}
+use Rattle.nat_box.specs.Places.{place_numbered, noted, source_key, dest_key}
 use Rattle.nat_box.specs.declared.place.Goes.{Goes}
-use Rattle.nat_box.specs.Nat.{Settings, goes, next_move, class_of_flow, noted_flow, nothing_noted, reason_of, begun_as}
+use Rattle.flow_boxes.specs.Drops.{reason_of}
+use Rattle.nat_box.specs.Nat.{Settings, goes, next_move, class_of_flow, noted_flow, nothing_noted, begun_as}
 use Rattle.nat_box.specs.Nat.{begun, mapped, after_find, after_reserve, after_bind, touched, after_endpoint, looked_by}
 use Rattle.nat_box.specs.Nat.{looked, after_time, told, frame_out, local_at, nat_meaning, MayBind, Fits}
 use Rattle.nat_box.specs.Noting.{place_again, IsNoted, is_noted, noted_again}
 use Rattle.nat_box.specs.Lawful.{AreSettings, var_of, touches_it, reads_it, below_all, nat_lawful}
-use Rattle.nat_box.specs.Emissions.{Trail, no_trail, left_forward, trail_by, trail_of, WasMapped, Lived, source_of}
-use Rattle.nat_box.specs.Emissions.{IsTranslated, IsTranslationOf, HaveBytes, EmissionsTranslate}
+use Rattle.nat_box.specs.Emissions.{Trail, no_trail, left_forward, trail_by, trail_of, WasMapped, Lived}
+use Rattle.nat_box.specs.Emissions.{IsTranslated, IsTranslationOf, EmissionsTranslate}
 use Rattle.nat_box.proofs.Noting.{touched_noted}
-use Rattle.nat_box.proofs.HeldInputs.{IsHeld, move_holds, run_holds}
+use Rattle.flow_boxes.proofs.Fitting.{IsWhole, whole, same_self, slot_refreshed, slot_bound}
+use Rattle.flow_boxes.proofs.HeldInputs.{IsHeld, move_holds, run_holds}
 use Rattle.nat_box.proofs.Making.{goes_on, comes_to, Made, made}
 
 -- Tables after a refresh and after a bind
-
-slot_refreshed : (key : Endpoint) (now : ℕ) (slot : Slot) (es : Forwards) → slot_of key es ≡ Some slot
-    → slot_of key (refresh key now es) ≡ Some (refreshed now slot)
-slot_refreshed key now slot [] is = absurd (cc)
-slot_refreshed key now slot (e ∷ es) is = by (same_endpoint key e.0) refl is (slot_refreshed key now slot es)
-  where
-    by : (b : Bool) → same_endpoint key e.0 ≡ b → (if b then Some e.1 else slot_of key es) ≡ Some slot
-        → (slot_of key es ≡ Some slot → slot_of key (refresh key now es) ≡ Some (refreshed now slot))
-        → slot_of key (refresh key now (e ∷ es)) ≡ Some (refreshed now slot)
-    by true q is rest = let s : e.1 ≡ slot = cc in rw (q, q) (ap (λ (t : Slot). Some (refreshed now t)) s)
-    by false q is rest = rw (q, q) (rest is)
-
-slot_bound : (key : Endpoint) (slot : Slot) (es : Forwards) → slot_of key es ≡ None → same_endpoint key key ≡ true
-    → slot_of key (es ++ (key, slot) ∷ []) ≡ Some slot
-slot_bound key slot [] is self = rw self refl
-slot_bound key slot (e ∷ es) is self = by (same_endpoint key e.0) refl is (λ h. slot_bound key slot es h self)
-  where
-    by : (b : Bool) → same_endpoint key e.0 ≡ b → (if b then Some e.1 else slot_of key es) ≡ None
-        → (slot_of key es ≡ None → slot_of key (es ++ (key, slot) ∷ []) ≡ Some slot)
-        → slot_of key ((e ∷ es) ++ (key, slot) ∷ []) ≡ Some slot
-    by true q is rest = absurd (cc)
-    by false q is rest = rw q (rest is)
 
 -- What is known of a packet in hand
 
@@ -82,17 +63,17 @@ record IsBase (s : Settings) (p : Packet) (n : Noted) : Type 0 where
   source : n.source ≡ source_of flow
   dest_port : n.dest_port ≡ flow.dest_port
 
-abbrev IsOutward : Class → Type 0
+abbrev pub IsOutward : Class → Type 0
 IsOutward Outbound = Unit {0}
 IsOutward Hairpin = Unit {0}
 IsOutward Inbound = ⊥
 
-abbrev IsInward : Class → Type 0
+abbrev pub IsInward : Class → Type 0
 IsInward Outbound = ⊥
 IsInward Hairpin = Unit {0}
 IsInward Inbound = Unit {0}
 
-abbrev IfOutward : Class → Type 0 → Type 0
+abbrev pub IfOutward : Class → Type 0 → Type 0
 IfOutward Outbound X = X
 IfOutward Hairpin X = X
 IfOutward Inbound X = Unit {0}
@@ -169,7 +150,7 @@ module _ (s : Settings) (p : Packet) where
   mapped_known r n Inbound is base clock out m = absurd (subst IsOutward is out)
 
   module _ (r : Trail) (n : Noted) (es : Forwards) (base : IsBase s p n) (clock : r.clock ≡ Some n.time)
-      (out : IsOutward n.class) (self : same_endpoint n.source n.source ≡ true) where
+      (out : IsOutward n.class) where
     there_known : (slot : Slot) (idle : Bool) → slot_of n.source es ≡ Some slot
         → (let f = found_there n.source n.time es slot idle in
         KnownAt s (after_touch (Mapped f.1) r) p (after_find n f.0).place (after_find n f.0).noted)
@@ -203,7 +184,7 @@ module _ (s : Settings) (p : Packet) where
         let slot : Slot = record { port = n.port; last = n.time } in
         let left : Forwards = es ++ (n.source, slot) ∷ [] in
         mapped_known (after_touch (Mapped left) r) n n.class refl base clock out
-        (left, slot, refl, slot_bound n.source slot es is self, refl)
+        (left, slot, refl, slot_bound n.source slot es is, refl)
 
   reserved_known : (r : Trail) (n : Noted) (o : Option ℕ) → IsBase s p n → r.clock ≡ Some n.time → IsOutward n.class
       → KnownAt s r p (after_reserve n o).place (after_reserve n o).noted
@@ -211,52 +192,52 @@ module _ (s : Settings) (p : Packet) where
   reserved_known r n None base clock out = tt
 
   touch_known : (r : Trail) (place : Place) (x : NatValue) (n : Noted) (v : ℕ) → next_move s place n ≡ Access v
-      → same_endpoint n.source n.source ≡ true → KnownAt s r p place n
+      → KnownAt s r p place n
       → KnownAt s (after_touch (touched place x n).0 r) p (touched place x n).1.place (touched place x n).1.noted
-  touch_known r HearsTime x n v e self k = absurd (cc)
-  touch_known r FindsMapping (Dropped d) n v e self k = tt
-  touch_known r FindsMapping (Free pool) n v e self k = tt
-  touch_known r FindsMapping (Mapped es) n v e self k =
-      found_known r n es k.0 k.1 k.2 self (slot_of n.source es) (first_idle n.time es) refl
-  touch_known r FindsMapping (Taken bs) n v e self k = tt
-  touch_known r UnbindsFreed (Dropped d) n v e self k = tt
-  touch_known r UnbindsFreed (Free pool) n v e self k = tt
-  touch_known r UnbindsFreed (Mapped es) n v e self k = tt
-  touch_known r UnbindsFreed (Taken bs) n v e self k = k
-  touch_known r GivesBackFreed (Dropped d) n v e self k = tt
-  touch_known r GivesBackFreed (Free pool) n v e self k = k
-  touch_known r GivesBackFreed (Mapped es) n v e self k = tt
-  touch_known r GivesBackFreed (Taken bs) n v e self k = tt
-  touch_known r DrawsWord x n v e self k = absurd (cc)
-  touch_known r ReservesPort (Dropped d) n v e self k = tt
-  touch_known r ReservesPort (Free pool) n v e self k =
+  touch_known r HearsTime x n v e k = absurd (cc)
+  touch_known r FindsMapping (Dropped d) n v e k = tt
+  touch_known r FindsMapping (Free pool) n v e k = tt
+  touch_known r FindsMapping (Mapped es) n v e k =
+      found_known r n es k.0 k.1 k.2 (slot_of n.source es) (first_idle n.time es) refl
+  touch_known r FindsMapping (Taken bs) n v e k = tt
+  touch_known r UnbindsFreed (Dropped d) n v e k = tt
+  touch_known r UnbindsFreed (Free pool) n v e k = tt
+  touch_known r UnbindsFreed (Mapped es) n v e k = tt
+  touch_known r UnbindsFreed (Taken bs) n v e k = k
+  touch_known r GivesBackFreed (Dropped d) n v e k = tt
+  touch_known r GivesBackFreed (Free pool) n v e k = k
+  touch_known r GivesBackFreed (Mapped es) n v e k = tt
+  touch_known r GivesBackFreed (Taken bs) n v e k = tt
+  touch_known r DrawsWord x n v e k = absurd (cc)
+  touch_known r ReservesPort (Dropped d) n v e k = tt
+  touch_known r ReservesPort (Free pool) n v e k =
       reserved_known r n (reserve n.source.protocol n.source.port n.word pool).0 k.0 k.1 k.2
-  touch_known r ReservesPort (Mapped es) n v e self k = tt
-  touch_known r ReservesPort (Taken bs) n v e self k = tt
-  touch_known r BindsPort (Dropped d) n v e self k = tt
-  touch_known r BindsPort (Free pool) n v e self k = tt
-  touch_known r BindsPort (Mapped es) n v e self k = tt
-  touch_known r BindsPort (Taken bs) n v e self k = k
-  touch_known r FindsOrBinds (Dropped d) n v e self k = tt
-  touch_known r FindsOrBinds (Free pool) n v e self k = tt
-  touch_known r FindsOrBinds (Mapped es) n v e self k = bound_known r n es k.0 k.1 k.2 self (slot_of n.source es) refl
-  touch_known r FindsOrBinds (Taken bs) n v e self k = tt
-  touch_known r UnbindsLost (Dropped d) n v e self k = tt
-  touch_known r UnbindsLost (Free pool) n v e self k = tt
-  touch_known r UnbindsLost (Mapped es) n v e self k = tt
-  touch_known r UnbindsLost (Taken bs) n v e self k = k
-  touch_known r GivesBackLost (Dropped d) n v e self k = tt
-  touch_known r GivesBackLost (Free pool) n v e self k = mapped_known r n n.class refl k.0 k.1 k.2 k.3
-  touch_known r GivesBackLost (Mapped es) n v e self k = tt
-  touch_known r GivesBackLost (Taken bs) n v e self k = tt
-  touch_known r FindsEndpoint x n v e self k = absurd (cc)
-  touch_known r AsksIfLives x n v e self k = absurd (cc)
-  touch_known r CountsDrop (Dropped d) n v e self k = tt
-  touch_known r CountsDrop (Free pool) n v e self k = tt
-  touch_known r CountsDrop (Mapped es) n v e self k = tt
-  touch_known r CountsDrop (Taken bs) n v e self k = tt
-  touch_known r SendsOut x n v e self k = absurd (cc)
-  touch_known r Ends x n v e self k = absurd (cc)
+  touch_known r ReservesPort (Mapped es) n v e k = tt
+  touch_known r ReservesPort (Taken bs) n v e k = tt
+  touch_known r BindsPort (Dropped d) n v e k = tt
+  touch_known r BindsPort (Free pool) n v e k = tt
+  touch_known r BindsPort (Mapped es) n v e k = tt
+  touch_known r BindsPort (Taken bs) n v e k = k
+  touch_known r FindsOrBinds (Dropped d) n v e k = tt
+  touch_known r FindsOrBinds (Free pool) n v e k = tt
+  touch_known r FindsOrBinds (Mapped es) n v e k = bound_known r n es k.0 k.1 k.2 (slot_of n.source es) refl
+  touch_known r FindsOrBinds (Taken bs) n v e k = tt
+  touch_known r UnbindsLost (Dropped d) n v e k = tt
+  touch_known r UnbindsLost (Free pool) n v e k = tt
+  touch_known r UnbindsLost (Mapped es) n v e k = tt
+  touch_known r UnbindsLost (Taken bs) n v e k = k
+  touch_known r GivesBackLost (Dropped d) n v e k = tt
+  touch_known r GivesBackLost (Free pool) n v e k = mapped_known r n n.class refl k.0 k.1 k.2 k.3
+  touch_known r GivesBackLost (Mapped es) n v e k = tt
+  touch_known r GivesBackLost (Taken bs) n v e k = tt
+  touch_known r FindsEndpoint x n v e k = absurd (cc)
+  touch_known r AsksIfLives x n v e k = absurd (cc)
+  touch_known r CountsDrop (Dropped d) n v e k = tt
+  touch_known r CountsDrop (Free pool) n v e k = tt
+  touch_known r CountsDrop (Mapped es) n v e k = tt
+  touch_known r CountsDrop (Taken bs) n v e k = tt
+  touch_known r SendsOut x n v e k = absurd (cc)
+  touch_known r Ends x n v e k = absurd (cc)
 
   -- a read
   abbrev after_look : NatValue → Trail → Trail
@@ -408,7 +389,7 @@ told_noted CountsDrop a n is = is
 told_noted SendsOut a n is = is
 told_noted Ends a n is = is
 
-worded : (n : Noted) (x : ℕ) → IsNoted n → IsNoted (record n { word = x })
+pub worded : (n : Noted) (x : ℕ) → IsNoted n → IsNoted (record n { word = x })
 worded n x is = record {
   protocol = is.protocol;
   address = is.address;
@@ -422,7 +403,7 @@ worded n x is = record {
   target_port = is.target_port;
 }
 
-targeted : (n : Noted) (key : Endpoint) → key.address < 2 ^ 32 → key.port < 2 ^ 16 → IsNoted n
+pub targeted : (n : Noted) (key : Endpoint) → key.address < 2 ^ 32 → key.port < 2 ^ 16 → IsNoted n
     → IsNoted (record n { target = endpoint n.source.protocol key.address key.port })
 targeted n key address port is = record {
   protocol = is.protocol;
@@ -488,27 +469,6 @@ looked_noted s Ends x n v is fits = is
 
 -- The beginning
 
-record IsWhole (flow : Flow) : Type 0 where
-  protocol : flow.protocol < 2 ^ 8
-  source : flow.source < 2 ^ 32
-  source_port : flow.source_port < 2 ^ 16
-  dest_port : flow.dest_port < 2 ^ 16
-
-word_fits : (frame : List ℕ) (place : ℕ) → AreBytes frame → word_at frame place < 2 ^ 16
-word_fits frame place bytes = let a = bytes place in let b = bytes (place + 1) in omega arith
-
-long_fits : (frame : List ℕ) (place : ℕ) → AreBytes frame → long_at frame place < 2 ^ 32
-long_fits frame place bytes =
-    let a = word_fits frame place bytes in let b = word_fits frame (place + 2) bytes in omega arith
-
-whole : (frame : List ℕ) → AreBytes frame → IsWhole (flow_of frame)
-whole frame bytes = record {
-  protocol = bytes 23;
-  source = long_fits frame 26 bytes;
-  source_port = word_fits frame (header_end frame) bytes;
-  dest_port = word_fits frame (header_end frame + 2) bytes;
-}
-
 begun_noted : (flow : Flow) (class : Class) → IsWhole flow → IsNoted (noted_flow flow class)
 begun_noted flow class w = record {
   protocol = w.protocol;
@@ -523,7 +483,7 @@ begun_noted flow class w = record {
   target_port = omega arith;
 }
 
-nothing_is_noted : (reason : ℕ) → IsNoted (nothing_noted reason)
+pub nothing_is_noted : (reason : ℕ) → IsNoted (nothing_noted reason)
 nothing_is_noted reason = record {
   protocol = omega arith;
   address = omega arith;
@@ -557,12 +517,6 @@ begun_known s p (Ok flow) bytes is =
         (begun_as flow (Some class)) (begun_noted flow class w)
         (record { flow = flow; seen = is; class = q; source = refl; dest_port = refl })
 
-same_self : (e : Endpoint) → same_endpoint e e ≡ true
-same_self e =
-    let a : (e.protocol == e.protocol) ≡ true = is_eq e.protocol e.protocol refl in
-    let b : (e.address == e.address) ≡ true = is_eq e.address e.address refl in
-    let c : (e.port == e.port) ≡ true = is_eq e.port e.port refl in rw (a, b, c) refl
-
 -- Each move
 
 made_known : (s : Settings) (is : AreSettings s) (packets : List Packet) (t : ℕ) (earlier : List (Step NatValue))
@@ -581,7 +535,7 @@ made_known s is packets t earlier taken tn before after (Touches v left) bytes f
     let at : var_of s place n ≡ v = touches_it s place n v m.2 in
     let below : v < 2 + 2 * s.shards = subst (λ (u : ℕ). u < 2 + 2 * s.shards) at (below_all s place n is.some) in
     let known : KnownAt s r h.packet place n = subst (Known s r) m.1 k in
-    let next = touch_known s h.packet r place x n v m.2 (same_self n.source) known in
+    let next = touch_known s h.packet r place x n v m.2 known in
     let on : Known s (after_touch (touched place x n).0 r) (goes_on h (touched place x n).1) =
     known_on s (after_touch (touched place x n).0 r) h (touched place x n).1
     (touched_noted s place x n v (is_noted h.place) (fits v below)) next in

@@ -1,9 +1,7 @@
-pub mod Summing
 pub mod Effects
 pub mod Noting
 pub mod Moving
 pub mod Standing
 pub mod Sentences
 pub mod Making
-pub mod HeldInputs
 pub mod Emissions

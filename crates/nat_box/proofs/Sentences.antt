@@ -30,7 +30,8 @@ use Rattle.nat_box.specs.PortStanding.{maps, maps_for, mapped_at, binds, binds_f
 use Rattle.nat_box.specs.PortStanding.{in_values, in_hand, in_hands, tally_of, IsSound}
 use Rattle.nat_box.specs.Sentences.{Has, mappings_in, bound_in, IsMapping, HaveReverse, HaveOneEndpoint, HaveOneMapping}
 use Rattle.nat_box.specs.Sentences.{IsBetween, Belong, EntriesStand}
-use Rattle.nat_box.proofs.Summing.{term_of_sum}
+use Rattle.flow_boxes.proofs.Fitting.{same_self}
+use Rattle.flow_boxes.proofs.Summing.{term_of_sum}
 use Rattle.nat_box.proofs.Effects.{of_range_one}
 use Rattle.nat_box.proofs.Standing.{for_below, ports_stand}
 
@@ -38,12 +39,6 @@ same_port_self : (k : PortKey) → same_port k k ≡ true
 same_port_self k =
     let a : (k.protocol == k.protocol) ≡ true = grind (arith, nat_tests) in
     let b : (k.port == k.port) ≡ true = grind (arith, nat_tests) in rw (a, b) refl
-
-same_self : (e : Endpoint) → same_endpoint e e ≡ true
-same_self e =
-    let a : (e.protocol == e.protocol) ≡ true = grind (arith, nat_tests) in
-    let b : (e.address == e.address) ≡ true = grind (arith, nat_tests) in
-    let c : (e.port == e.port) ≡ true = grind (arith, nat_tests) in rw (a, b, c) refl
 
 -- Sums and their terms
 

@@ -32,7 +32,7 @@ use Rattle.nat_box.specs.Lawful.{AreSettings, var_of, touches_it, below_all, nat
 use Rattle.nat_box.specs.PortStanding.{free_at, maps, maps_for, mapped_at, binds, binds_for, taken_at, bare, queued}
 use Rattle.nat_box.specs.PortStanding.{queued_for, loose, in_values, in_hand, in_hands, Tally, tally_of, IsSound}
 use Rattle.nat_box.specs.PortStanding.{PortsStand}
-use Rattle.nat_box.proofs.Summing.{one_changes, sum_of_none, term_of_sum, sums_below, one_term}
+use Rattle.flow_boxes.proofs.Summing.{one_changes, sum_of_none, term_of_sum, sums_below, one_term}
 use Rattle.nat_box.proofs.Effects.{holds_none, seen, Shifts, IsPart, IsUnder, Own, of_range_one, touch_sound}
 use Rattle.nat_box.proofs.Noting.{touched_noted}
 use Rattle.nat_box.proofs.Moving.{HandNone, touching, Outcome, outcome}

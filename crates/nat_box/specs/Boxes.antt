@@ -2,6 +2,7 @@
 use Rattle.std.specs.Prelude.{ℕ, ◌≤◌, ◌<◌, ◌^◌, min, max}
 use Rattle.std.proofs.Common.{arith}
 use Rattle.plain_machine.specs.Program.{Meaning, IsLawful}
+use Rattle.flow_boxes.specs.Ranges.{at_least, at_most, one_of_64}
 use Rattle.nat_box.specs.declared.nat.NatBox.{NatBox}
 use Rattle.nat_box.specs.declared.value.NatValue.{NatValue}
 use Rattle.nat_box.specs.Nat.{Settings, nat_meaning, Fits}
@@ -10,15 +11,6 @@ use Rattle.nat_box.specs.Lawful.{AreSettings, nat_lawful}
 abbrev pub settings_of : NatBox → Settings
 settings_of b =
     record { shards = b.shards; inside = b.inside; length = b.length; outside = b.outside; low = b.low; high = b.high }
-
-pub at_least : (least n most : ℕ) → least ≤ max least (min n most)
-at_least least n most = omega arith
-
-pub at_most : (least n most : ℕ) → least ≤ most → max least (min n most) ≤ most
-at_most least n most order = omega arith
-
-pub one_of_64 : 1 ≤ 64
-one_of_64 = omega arith
 
 pub one_of_32 : 1 ≤ 32
 one_of_32 = omega arith

@@ -2,7 +2,6 @@
 use Rattle.std.specs.Prelude.{◌≡◌, ℕ, ◌-◌, ◌≤◌, true, List, [], ◌∷◌, Option, Some, None, Ok, nat_eq, cond, slice_get}
 use Rattle.plain_text.specs.declared.packet.Packet.{Packet}
 use Rattle.packet_headers.specs.declared.flow.Flow.{Flow}
-use Rattle.packet_headers.specs.Fields.{AreBytes}
 use Rattle.packet_headers.specs.View.{viewed}
 use Rattle.packet_headers.specs.Rewriting.{with_source, with_dest}
 use Rattle.entry_order.specs.declared.what.What.{What}
@@ -16,7 +15,7 @@ use Rattle.nat_box.specs.declared.place.Class.{Class}
 use Rattle.nat_box.specs.declared.place.Class.TheVariants.{Outbound, Hairpin, Inbound}
 use Rattle.nat_box.specs.declared.value.NatValue.{NatValue}
 use Rattle.nat_box.specs.declared.value.NatValue.TheVariants.{Dropped, Free, Mapped, Taken}
-use Rattle.nat_box.specs.Places.{endpoint}
+use Rattle.flow_boxes.specs.Flows.{HaveBytes, source_of}
 use Rattle.nat_box.specs.Nat.{Settings, class_of_flow, nat_meaning}
 use Rattle.nat_box.specs.Lawful.{AreSettings}
 
@@ -67,9 +66,6 @@ abbrev pub Lived : Trail → Endpoint → ℕ → Type 0
 Lived r key port =
     (es : Forwards) × (now : ℕ) × (r.read ≡ Some (Mapped es)) × (r.clock ≡ Some now) × (lives key port now es ≡ true)
 
-abbrev pub source_of : Flow → Endpoint
-source_of flow = endpoint flow.protocol flow.source flow.source_port
-
 abbrev pub IsTranslated : Settings → List ℕ → Flow → Trail → List ℕ → Class → Type 0
 IsTranslated s bytes flow r sent Outbound =
     (port : ℕ) × WasMapped r.forward (source_of flow) port × (sent ≡ with_source bytes flow s.outside port)
@@ -86,10 +82,6 @@ IsTranslationOf s r sent None = ⊥
 IsTranslationOf s r sent (Some p) =
     (flow : Flow) × (class : Class) × (viewed p.bytes p.original ≡ Ok flow)
     × (class_of_flow s flow.source flow.dest ≡ Some class) × IsTranslated s p.bytes flow r sent class
-
--- each input is of bytes
-abbrev pub HaveBytes : (ℕ → List Packet) → Type 0
-HaveBytes inputs = (t k : ℕ) (p : Packet) → slice_get (inputs t) k ≡ Some p → AreBytes p.bytes
 
 -- what a thread sends out is the translation of its input of the emission's number
 abbrev pub EmissionsTranslate : Type 0

@@ -5,8 +5,7 @@ use Rattle.std.specs.Prelude.{if◌then◌else◌, List, [], slice_index, slice_
 use Rattle.std.specs.Prelude.{Ok, Err}
 use Rattle.packet_headers.specs.declared.flow.Flow.{Flow}
 use Rattle.packet_headers.specs.declared.flow.NotFlow.{NotFlow}
-use Rattle.packet_headers.specs.declared.flow.NotFlow.TheVariants.{Short, NotIpv4, BadHeaderLength, Fragment}
-use Rattle.packet_headers.specs.declared.flow.NotFlow.TheVariants.{OtherProtocol, BadTotalLength}
+use Rattle.flow_boxes.specs.Drops.{reason_of, with_drop, no_drops, stray}
 use Rattle.packet_headers.specs.View.{viewed}
 use Rattle.packet_headers.specs.Rewriting.{with_source, with_dest}
 use Rattle.plain_machine.specs.declared.local.Local.{Local}
@@ -32,11 +31,12 @@ use Rattle.nat_box.specs.declared.place.Class.{Class}
 use Rattle.nat_box.specs.declared.place.Class.TheVariants.{Outbound, Hairpin, Inbound}
 use Rattle.nat_box.specs.declared.place.Noted.{Noted}
 use Rattle.nat_box.specs.declared.place.Goes.{Goes}
-use Rattle.nat_box.specs.declared.value.Drops.{Drops}
+use Rattle.flow_boxes.specs.declared.drops.Drops.{Drops}
 use Rattle.nat_box.specs.declared.value.NatValue.{NatValue}
 use Rattle.nat_box.specs.declared.value.NatValue.TheVariants.{Dropped, Free, Mapped, Taken}
 use Rattle.nat_box.specs.Shown.{shown_value}
-use Rattle.nat_box.specs.Places.{place_numbered, noted, local_of, source_key, dest_key, endpoint}
+use Rattle.flow_boxes.specs.Flows.{endpoint}
+use Rattle.nat_box.specs.Places.{place_numbered, noted, local_of, source_key, dest_key}
 
 pub record Settings : Type 0 where
   -- how many forward tables there are, and how many reverse tables
@@ -96,22 +96,11 @@ moves_left Ends = 0
 
 -- The beginning
 
-abbrev pub reason_of : NotFlow → ℕ
-reason_of Short = 1
-reason_of NotIpv4 = 2
-reason_of BadHeaderLength = 3
-reason_of Fragment = 4
-reason_of OtherProtocol = 5
-reason_of BadTotalLength = 6
-
 abbrev pub no_mapping : ℕ
 no_mapping = 7
 
 abbrev pub no_free_port : ℕ
 no_free_port = 8
-
-abbrev pub stray : ℕ
-stray = 9
 
 abbrev pub is_inside : Settings → ℕ → Bool
 is_inside s address = address / 2 ^ (32 - s.length) == s.inside / 2 ^ (32 - s.length)
@@ -180,12 +169,6 @@ abbrev pub after_bind : Noted → Bind → Goes
 after_bind n Bound = mapped n n.class
 after_bind n (Other port) = goes UnbindsLost (record n { port = port; freed = source_key n })
 
-abbrev pub with_drop : ℕ → Drops → Drops
-with_drop reason d =
-    if nat_lt 0 reason && nat_lt reason 10
-    then record { counts = slice_set d.counts (reason - 1) ((slice_index d.counts (reason - 1) + 1) % 2 ^ 64) }
-    else d
-
 -- at each place the value of its variable, and where the packet goes; the other cases do not come
 abbrev pub touched : Place → NatValue → Noted → NatValue × Goes
 touched FindsMapping (Mapped es) n =
@@ -245,9 +228,6 @@ bytes_out s bytes n (Err answer) = bytes
 
 abbrev pub local_at : Goes → Local
 local_at g = local_of g.place g.noted
-
-abbrev pub no_drops : Drops
-no_drops = record { counts = replicate 9 0 }
 
 abbrev pub fresh_value : Settings → ℕ → NatValue
 fresh_value s v =

@@ -4,6 +4,7 @@ use Rattle.plain_machine.specs.declared.local.Local.{Local}
 use Rattle.nat_tables.specs.declared.entries.Endpoint.{Endpoint}
 use Rattle.nat_tables.specs.declared.entries.PortKey.{PortKey}
 use Rattle.nat_tables.specs.Keys.{port_key}
+use Rattle.flow_boxes.specs.Flows.{endpoint}
 use Rattle.nat_box.specs.declared.place.Place.{Place}
 use Rattle.nat_box.specs.declared.place.Place.TheVariants.{HearsTime, FindsMapping, UnbindsFreed, GivesBackFreed}
 use Rattle.nat_box.specs.declared.place.Place.TheVariants.{DrawsWord, ReservesPort, BindsPort, FindsOrBinds}
@@ -46,9 +47,6 @@ number_of_class Inbound = 2
 
 abbrev pub class_of : ℕ → Class
 class_of number = if number == 0 then Outbound else if number == 1 then Hairpin else Inbound
-
-abbrev pub endpoint : ℕ → ℕ → ℕ → Endpoint
-endpoint protocol address port = record { protocol = protocol; address = address; port = port }
 
 -- what the Local has noted
 abbrev pub noted : Local → Noted

@@ -14,4 +14,4 @@ pub use laws::{
 };
 pub use nat::NatBox;
 pub use place::{Class, Goes, Noted, Place};
-pub use value::{Drops, NatValue};
+pub use value::NatValue;

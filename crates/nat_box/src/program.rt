@@ -1,7 +1,8 @@
 ghost use Rattle.std.specs.Prelude.{◌≡◌};
 
-use crate::{Drops, Goes, NatBox, NatValue, Noted, Place};
+use crate::{Goes, NatBox, NatValue, Noted, Place};
 use box_program::{Local, Move, Program};
+use flow_boxes::Drops;
 use nat_tables::{Forward, Pool, Reverse};
 use packet_headers::view;
 use plain_text::{Bytes, NoMemory, Packet, Text};

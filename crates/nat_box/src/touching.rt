@@ -3,7 +3,8 @@ ghost use Rattle.nat_box.specs.Nat.{goes, dropped, mapped, after_find, after_res
 ghost use Rattle.nat_box.specs.Nat.{touched, after_endpoint, looked, told};
 ghost use Rattle.nat_box.specs.declared.value.NatValue.TheVariants.{Dropped, Free, Mapped, Taken};
 
-use crate::{Class, Drops, Goes, Noted, Place};
+use crate::{Class, Goes, Noted, Place};
+use flow_boxes::Drops;
 use nat_tables::{Bind, Endpoint, Find, Forward, Freed, Pool, Reverse};
 use plain_text::NoMemory;
 

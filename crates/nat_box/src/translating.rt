@@ -1,31 +1,14 @@
 ghost use Rattle.std.specs.Prelude.{◌≡◌, IfOk};
 ghost use Rattle.packet_headers.specs.Rewriting.{CanRewrite};
 ghost use Rattle.nat_box.specs.Nat.{begun, frame_out, bytes_out, noted_flow, nothing_noted};
-ghost use Rattle.nat_box.specs.Nat.{reason_of};
 ghost use Rattle.nat_box.specs.Boxes.{settings_of};
 
 use crate::{Class, Goes, NatBox, Noted, Place};
+use flow_boxes::{STRAY, reason_of};
 use nat_tables::{Endpoint, PortKey};
 use packet_headers::{Flow, NotFlow, set_dest, set_source};
 use plain_text::{Bytes, HEADER_ROOM, NoMemory, copy_with_room};
 use std::alloc::Global;
-
-/// The reason for which a packet is dropped that is of no class.
-const STRAY: u64 = 9;
-
-/// The reason for which a packet is dropped that is no flow.
-fn reason_of(answer: NotFlow) -> u64
-    ensures { result ≡ reason_of answer }
-{
-    match answer {
-        NotFlow::Short => 1,
-        NotFlow::NotIpv4 => 2,
-        NotFlow::BadHeaderLength => 3,
-        NotFlow::Fragment => 4,
-        NotFlow::OtherProtocol => 5,
-        NotFlow::BadTotalLength => 6,
-    }
-}
 
 impl Noted {
     /// Nothing is noted but the reason for which the packet is dropped.

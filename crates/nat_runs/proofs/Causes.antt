@@ -16,13 +16,13 @@ use Rattle.plain_machine.proofs.Histories.{is_eq}
 use Rattle.plain_machine.proofs.Bounds.{values_fit}
 use Rattle.nat_box.specs.declared.place.Place.{Place}
 use Rattle.nat_box.specs.declared.place.Noted.{Noted}
-use Rattle.nat_box.specs.declared.value.Drops.{Drops}
+use Rattle.flow_boxes.specs.declared.drops.Drops.{Drops}
 use Rattle.nat_box.specs.declared.value.NatValue.{NatValue}
 use Rattle.nat_box.specs.declared.value.NatValue.TheVariants.{Dropped}
 use Rattle.nat_box.specs.Places.{noted}
 use Rattle.nat_box.specs.Nat.{Settings, touched, nat_meaning, Fits}
 use Rattle.nat_box.specs.Lawful.{AreSettings, var_of, touches_it, nat_lawful}
-use Rattle.nat_box.proofs.HeldInputs.{IsHeld, run_holds}
+use Rattle.flow_boxes.proofs.HeldInputs.{IsHeld, run_holds}
 use Rattle.nat_box.proofs.Making.{comes_to}
 use Rattle.nat_runs.specs.Met.{Met, met_of}
 use Rattle.nat_runs.specs.Causes.{Cause, one_more, DropsHaveCauses}

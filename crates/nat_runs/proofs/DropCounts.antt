@@ -6,8 +6,8 @@ use Rattle.std.proofs.lemmas.Bool.Decides.{nat_tests}
 use Rattle.std.specs.List.{sum}
 use Rattle.std.proofs.lemmas.List.{length-set}
 use Rattle.std.proofs.lemmas.List.Sums.{sum_by-cons}
-use Rattle.nat_box.specs.declared.value.Drops.{Drops}
-use Rattle.nat_box.specs.Nat.{with_drop}
+use Rattle.flow_boxes.specs.declared.drops.Drops.{Drops}
+use Rattle.flow_boxes.specs.Drops.{with_drop}
 use Rattle.nat_runs.specs.Causes.{one_more}
 
 pub drop_is : (reason : ℕ) (d : Drops) → 1 ≤ reason → reason ≤ 9 → with_drop reason d ≡ one_more reason d

@@ -36,24 +36,27 @@ use Rattle.nat_box.specs.declared.place.Class.TheVariants.{Outbound, Hairpin, In
 use Rattle.nat_box.specs.declared.place.Noted.{Noted}
 use Rattle.nat_box.specs.declared.value.NatValue.{NatValue}
 use Rattle.nat_box.specs.declared.value.NatValue.TheVariants.{Dropped, Free, Mapped, Taken}
-use Rattle.nat_box.specs.Places.{place_numbered, noted, dest_key, endpoint, local_of}
+use Rattle.flow_boxes.specs.Flows.{endpoint, source_of}
+use Rattle.nat_box.specs.Places.{place_numbered, noted, dest_key, local_of}
 use Rattle.nat_box.specs.declared.place.Goes.{Goes}
 use Rattle.nat_box.specs.Nat.{Settings, goes, forward_table, reverse_table, class_of_flow, noted_flow, nothing_noted}
-use Rattle.nat_box.specs.Nat.{reason_of, begun_as}
+use Rattle.flow_boxes.specs.Drops.{reason_of}
+use Rattle.nat_box.specs.Nat.{begun_as}
 use Rattle.nat_box.specs.Nat.{begun, mapped, after_find, after_reserve, after_bind, touched, after_endpoint, looked_by}
 use Rattle.nat_box.specs.Nat.{looked, after_time, told, local_at, nat_meaning, MayMap, MayBind, Fits}
 use Rattle.nat_box.specs.Noting.{place_again, class_again, IsNoted, is_noted, noted_again}
 use Rattle.nat_box.specs.Lawful.{AreSettings, var_of, touches_it, reads_it, nat_lawful}
 use Rattle.nat_box.specs.PortStanding.{free_at}
 use Rattle.nat_box.specs.Sentences.{Has, mappings_in, bound_in}
-use Rattle.nat_box.specs.Emissions.{source_of}
 use Rattle.nat_box.proofs.Noting.{touched_noted}
 use Rattle.nat_box.proofs.Making.{goes_on}
 use Rattle.nat_runs.specs.Classes.{IsFromInside, GoesInside}
 use Rattle.nat_runs.specs.Met.{Met, nothing_met, met_by_touch, met_by_read, met_by, met_of}
 use Rattle.nat_runs.specs.Causes.{IsUnbound, HasNoneUsed, FoundNoneUsed, Cause}
 use Rattle.nat_runs.proofs.TableEntries.{endpoint_in, not_bound, AreIdle, lives_not, may_endpoint, may_mapping}
-use Rattle.nat_runs.proofs.TableEntries.{none_free, slot_refreshed, slot_bound}
+use Rattle.nat_runs.proofs.TableEntries.{none_free}
+use Rattle.flow_boxes.proofs.Fitting.{IsWhole, whole, slot_refreshed, slot_bound}
+use Rattle.nat_box.proofs.Emissions.{IsOutward, IsInward, IfOutward, worded, targeted, nothing_is_noted}
 use Rattle.nat_runs.proofs.ThreadMoves.{TouchKind, finds, unbinds_freed, gives_freed, reserves, binds, finds_or_binds}
 use Rattle.nat_runs.proofs.ThreadMoves.{unbinds_lost, gives_lost, counts, LookKind, finds_endpoint, asks, touch_kind}
 use Rattle.nat_runs.proofs.ThreadMoves.{look_kind, at_clock, at_draw, at, touched_below, read_below, by_move}
@@ -64,21 +67,6 @@ pub record IsBase (s : Settings) (p : Packet) (n : Noted) : Type 0 where
   pub class : class_of_flow s flow.source flow.dest ≡ Some n.class
   pub source : AreBytes p.bytes → n.source ≡ source_of flow
   pub dest_port : AreBytes p.bytes → n.dest_port ≡ flow.dest_port
-
-abbrev pub IsOutward : Class → Type 0
-IsOutward Outbound = Unit {0}
-IsOutward Hairpin = Unit {0}
-IsOutward Inbound = ⊥
-
-abbrev pub IsInward : Class → Type 0
-IsInward Outbound = ⊥
-IsInward Hairpin = Unit {0}
-IsInward Inbound = Unit {0}
-
-abbrev pub IfOutward : Class → Type 0 → Type 0
-IfOutward Outbound X = X
-IfOutward Hairpin X = X
-IfOutward Inbound X = Unit {0}
 
 -- it knows the time
 abbrev pub IsTold : Settings → Met → Packet → Noted → Type 0
@@ -143,49 +131,6 @@ timed n a is = record {
   target_protocol = is.target_protocol;
   target_address = is.target_address;
   target_port = is.target_port;
-}
-
-worded : (n : Noted) (a : ℕ) → IsNoted n → IsNoted (record n { word = a })
-worded n a is = record {
-  protocol = is.protocol;
-  address = is.address;
-  source_port = is.source_port;
-  dest_port = is.dest_port;
-  port = is.port;
-  freed_protocol = is.freed_protocol;
-  freed_port = is.freed_port;
-  target_protocol = is.target_protocol;
-  target_address = is.target_address;
-  target_port = is.target_port;
-}
-
-targeted : (n : Noted) (key : Endpoint) → key.address < 2 ^ 32 → key.port < 2 ^ 16 → IsNoted n
-    → IsNoted (record n { target = endpoint n.source.protocol key.address key.port })
-targeted n key address port is = record {
-  protocol = is.protocol;
-  address = is.address;
-  source_port = is.source_port;
-  dest_port = is.dest_port;
-  port = is.port;
-  freed_protocol = is.freed_protocol;
-  freed_port = is.freed_port;
-  target_protocol = refl;
-  target_address = address;
-  target_port = port;
-}
-
-nothing_is_noted : (reason : ℕ) → IsNoted (nothing_noted reason)
-nothing_is_noted reason = record {
-  protocol = omega arith;
-  address = omega arith;
-  source_port = omega arith;
-  dest_port = omega arith;
-  port = omega arith;
-  freed_protocol = omega arith;
-  freed_port = omega arith;
-  target_protocol = refl;
-  target_address = omega arith;
-  target_port = omega arith;
 }
 
 time_noted : (n : Noted) (c : Class) → IsNoted n → IsNoted (after_time n c).noted
@@ -464,13 +409,6 @@ reason_low BadHeaderLength = (omega arith, omega arith)
 reason_low Fragment = (omega arith, omega arith)
 reason_low OtherProtocol = (omega arith, omega arith)
 reason_low BadTotalLength = (omega arith, omega arith)
-
-word_fits : (frame : List ℕ) (place : ℕ) → AreBytes frame → word_at frame place < 2 ^ 16
-word_fits frame place bytes = let a = bytes place in let b = bytes (place + 1) in omega arith
-
-long_fits : (frame : List ℕ) (place : ℕ) → AreBytes frame → long_at frame place < 2 ^ 32
-long_fits frame place bytes =
-    let a = word_fits frame place bytes in let b = word_fits frame (place + 2) bytes in omega arith
 
 module _ (s : Settings) (p : Packet) where
   -- the fields of a flow of bytes, as they are noted

@@ -28,7 +28,7 @@ use Rattle.nat_box.specs.declared.place.Place.TheVariants.{HearsTime, DrawsWord}
 use Rattle.nat_box.specs.declared.place.Class.{Class}
 use Rattle.nat_box.specs.declared.place.Class.TheVariants.{Outbound, Hairpin, Inbound}
 use Rattle.nat_box.specs.declared.place.Noted.{Noted}
-use Rattle.nat_box.specs.declared.value.Drops.{Drops}
+use Rattle.flow_boxes.specs.declared.drops.Drops.{Drops}
 use Rattle.nat_box.specs.declared.value.NatValue.{NatValue}
 use Rattle.nat_box.specs.declared.value.NatValue.TheVariants.{Dropped, Free, Mapped, Taken}
 use Rattle.nat_box.specs.Places.{noted, dest_key}
@@ -37,7 +37,7 @@ use Rattle.nat_box.specs.Nat.{Settings, class_of_flow, begun_as, begun, mapped, 
 use Rattle.nat_box.specs.Nat.{touched, after_endpoint, looked_by, looked, after_time, told, nat_meaning, Fits}
 use Rattle.nat_box.specs.Noting.{place_again}
 use Rattle.nat_box.specs.Lawful.{AreSettings, var_of, touches_it, nat_lawful}
-use Rattle.nat_box.proofs.Summing.{one_changes, sum_of_none, term_of_sum}
+use Rattle.flow_boxes.proofs.Summing.{one_changes, sum_of_none, term_of_sum}
 use Rattle.nat_box.proofs.Making.{comes_to, goes_on}
 use Rattle.nat_runs.specs.Met.{Met, met_of}
 use Rattle.nat_runs.specs.Passing.{taken_by, taken_in, drops_in, waits_at, waits, waiting, counted_by}

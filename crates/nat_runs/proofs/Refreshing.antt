@@ -26,8 +26,8 @@ use Rattle.nat_box.specs.Places.{noted}
 use Rattle.nat_box.specs.Nat.{Settings, class_of_flow, touched, nat_meaning, Fits}
 use Rattle.nat_box.specs.Lawful.{AreSettings, nat_lawful}
 use Rattle.nat_box.specs.Sentences.{Has, mappings_in}
-use Rattle.nat_box.specs.Emissions.{source_of}
-use Rattle.nat_box.proofs.HeldInputs.{IsHeld, run_holds}
+use Rattle.flow_boxes.specs.Flows.{source_of}
+use Rattle.flow_boxes.proofs.HeldInputs.{IsHeld, run_holds}
 use Rattle.nat_box.proofs.Making.{comes_to}
 use Rattle.nat_runs.specs.Met.{Met, met_of}
 use Rattle.nat_runs.specs.Refreshing.{ComesFrom, HostsRefresh, HasRefreshed, SentRefresh}

@@ -15,14 +15,9 @@ use Rattle.nat_tables.specs.Forwards.{lives}
 use Rattle.nat_tables.specs.Forwards.{Misses, AreMappings}
 use Rattle.nat_tables.specs.Reverses.{Reverses, endpoint_of, AreBound}
 use Rattle.nat_tables.proofs.Counting.{same_is, port_is}
+use Rattle.flow_boxes.proofs.Fitting.{same_self}
 use Rattle.nat_box.specs.Sentences.{Has}
 use Rattle.nat_runs.specs.Idle.{IsIdle, IsUsed}
-
-same_self : (e : Endpoint) → same_endpoint e e ≡ true
-same_self e =
-    let a : (e.protocol == e.protocol) ≡ true = grind (arith, nat_tests) in
-    let b : (e.address == e.address) ≡ true = grind (arith, nat_tests) in
-    let c : (e.port == e.port) ≡ true = grind (arith, nat_tests) in rw (a, b, c) refl
 
 same_port_self : (k : PortKey) → same_port k k ≡ true
 same_port_self k =
@@ -180,28 +175,6 @@ refreshed_in key now (x ∷ es) e h =
     by true (inr h) rest = (e.1, inr h, refl, omega arith, inl refl)
     by false (inl p) rest = (e.1, inl p, refl, omega arith, inl refl)
     by false (inr h) rest = let r = rest h in (r.0, inr r.1, r.2, r.3, r.4)
-
-pub slot_refreshed : (key : Endpoint) (now : ℕ) (slot : Slot) (es : Forwards) → slot_of key es ≡ Some slot
-    → slot_of key (refresh key now es) ≡ Some (refreshed now slot)
-slot_refreshed key now slot [] is = absurd (cc)
-slot_refreshed key now slot (e ∷ es) is = by (same_endpoint key e.0) refl is (slot_refreshed key now slot es)
-  where
-    by : (b : Bool) → same_endpoint key e.0 ≡ b → (if b then Some e.1 else slot_of key es) ≡ Some slot
-        → (slot_of key es ≡ Some slot → slot_of key (refresh key now es) ≡ Some (refreshed now slot))
-        → slot_of key (refresh key now (e ∷ es)) ≡ Some (refreshed now slot)
-    by true q is rest = let s : e.1 ≡ slot = cc in rw (q, q) (ap (λ (t : Slot). Some (refreshed now t)) s)
-    by false q is rest = rw (q, q) (rest is)
-
-pub slot_bound : (key : Endpoint) (slot : Slot) (es : Forwards) → slot_of key es ≡ None
-    → slot_of key (es ++ (key, slot) ∷ []) ≡ Some slot
-slot_bound key slot [] is = rw (same_self key) refl
-slot_bound key slot (e ∷ es) is = by (same_endpoint key e.0) refl is (λ h. slot_bound key slot es h)
-  where
-    by : (b : Bool) → same_endpoint key e.0 ≡ b → (if b then Some e.1 else slot_of key es) ≡ None
-        → (slot_of key es ≡ None → slot_of key (es ++ (key, slot) ∷ []) ≡ Some slot)
-        → slot_of key ((e ∷ es) ++ (key, slot) ∷ []) ≡ Some slot
-    by true q is rest = absurd (cc)
-    by false q is rest = rw q (rest is)
 
 -- what a change leaves was there, or is of the endpoint of the change
 abbrev pub WasOr : Endpoint → Endpoint × Slot → Forwards → Type 0

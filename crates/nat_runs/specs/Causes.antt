@@ -14,15 +14,15 @@ use Rattle.nat_tables.specs.declared.entries.Endpoint.{Endpoint}
 use Rattle.nat_tables.specs.declared.entries.PortKey.{PortKey}
 use Rattle.nat_tables.specs.declared.slot.Slot.{Slot}
 use Rattle.nat_tables.specs.Keys.{port_key}
-use Rattle.nat_box.specs.declared.value.Drops.{Drops}
+use Rattle.flow_boxes.specs.declared.drops.Drops.{Drops}
 use Rattle.nat_box.specs.declared.value.NatValue.{NatValue}
 use Rattle.nat_box.specs.declared.value.NatValue.TheVariants.{Dropped}
-use Rattle.nat_box.specs.Places.{endpoint}
-use Rattle.nat_box.specs.Nat.{Settings, class_of_flow, reason_of, nat_meaning}
+use Rattle.flow_boxes.specs.Flows.{endpoint, HaveBytes}
+use Rattle.flow_boxes.specs.Drops.{reason_of}
+use Rattle.nat_box.specs.Nat.{Settings, class_of_flow, nat_meaning}
 use Rattle.nat_box.specs.Lawful.{AreSettings}
 use Rattle.nat_box.specs.PortStanding.{free_at}
 use Rattle.nat_box.specs.Sentences.{Has, bound_in, IsMapping}
-use Rattle.nat_box.specs.Emissions.{HaveBytes}
 use Rattle.nat_runs.specs.Classes.{IsFromInside, GoesInside}
 use Rattle.nat_runs.specs.Met.{Met, met_of}
 use Rattle.nat_runs.specs.Idle.{IsIdle}

@@ -13,7 +13,7 @@ use Rattle.nat_box.specs.declared.value.NatValue.{NatValue}
 use Rattle.nat_box.specs.Nat.{Settings, nat_meaning}
 use Rattle.nat_box.specs.Lawful.{AreSettings}
 use Rattle.nat_box.specs.Sentences.{Has, mappings_in}
-use Rattle.nat_box.specs.Emissions.{source_of, HaveBytes}
+use Rattle.flow_boxes.specs.Flows.{source_of, HaveBytes}
 use Rattle.nat_runs.specs.Classes.{IsFromInside}
 use Rattle.nat_runs.specs.Met.{Met, met_of}
 

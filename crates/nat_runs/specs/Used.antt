@@ -16,7 +16,8 @@ use Rattle.nat_box.specs.declared.value.NatValue.TheVariants.{Mapped}
 use Rattle.nat_box.specs.Nat.{Settings, class_of_flow, nat_meaning}
 use Rattle.nat_box.specs.Lawful.{AreSettings}
 use Rattle.nat_box.specs.Sentences.{Has}
-use Rattle.nat_box.specs.Emissions.{Trail, trail_of, HaveBytes}
+use Rattle.flow_boxes.specs.Flows.{HaveBytes}
+use Rattle.nat_box.specs.Emissions.{Trail, trail_of}
 use Rattle.nat_runs.specs.Idle.{IsUsed}
 
 -- The forward table that the packet read last has a mapping of the endpoint to the port, and it was not idle at the

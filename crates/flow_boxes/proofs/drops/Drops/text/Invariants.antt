@@ -1,6 +1,6 @@
 use Rattle.std.proofs.Common.{◌≡◌, ◌+◌, drop, []}
 use Rattle.std.specs.String.{string_bytes}
-use Rattle.nat_box.specs.Shown.{with_reasons}
+use Rattle.flow_boxes.specs.Shown.{with_reasons}
 use Rattle.nat_box.proofs.value.Drops.text.Given as goal
 
 -- what is left, behind the text so far, gives the whole

@@ -1,0 +1,4 @@
+pub mod Drops
+pub mod Shown
+pub mod Flows
+pub mod Ranges
