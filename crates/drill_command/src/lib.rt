@@ -3,7 +3,6 @@
 #![tactic(auto)]
 
 mod drill;
-mod lent;
 mod performing;
 mod running;
 mod writing;

@@ -8,10 +8,9 @@ ghost use Rattle.recovery_core.specs.Systems.{FinishesAs, SystemStands};
 ghost use Rattle.drill_command.specs.Ends.{HasEnded, HasHalted, setting_with};
 ghost use Rattle.drill_command.specs.Running.{HasPerformed, IsNew};
 
-use crate::lent::Lent;
 use crate::performing::perform_all;
 use access_log::Outputs;
-use box_program::Program;
+use box_program::{Lent, Program};
 use plain_text::{NoMemory, Packets, Unit};
 use recovery_core::{Finished, Stop, System};
 use recovery_world::{Event, Outcome};

@@ -11,6 +11,7 @@ mod reporting;
 
 pub use comparing::first_difference;
 pub use copying::copy_packets;
+pub use drops::put_reason;
 pub use events::{Events, calm_events, drill_events};
 pub use laws::{rounds_are_the_fewest_that_feed_all, what_was_all_released_waits_for_nothing};
 pub use reporting::{Facts, put_report};

@@ -5,7 +5,6 @@
 mod filling;
 mod following;
 mod laws;
-mod lent;
 mod performing;
 mod places;
 mod rows;

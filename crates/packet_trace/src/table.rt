@@ -1,8 +1,8 @@
 ghost use Rattle.std.specs.Prelude.{◌≡◌, ◌++◌, IfOk, OnOk, decimal};
-ghost use Rattle.drill_report.specs.Report.{reason_word};
 ghost use Rattle.packet_trace.specs.Table.{fate_words, left_words, row_line, tab, table_text};
 
 use crate::rows::{Departure, Fate, Row};
+use drill_report::put_reason;
 use plain_text::{Bytes, NoMemory, put_u64};
 use std::alloc::Global;
 
@@ -20,24 +20,6 @@ fn put_word(out: &mut Bytes, word: &[u8], number: u64) -> Result<(), NoMemory>
 {
     out.extend(word)?;
     put_u64(out, number)
-}
-
-/// Appends the word for a reason of drops, by its digit.
-fn put_reason(out: &mut Bytes, digit: u8) -> Result<(), NoMemory>
-    ensures { OnOk result (out.new ≡ out.old ++ reason_word digit) }
-{
-    match digit {
-        b'1' => out.extend(b"short"),
-        b'2' => out.extend(b"not IPv4"),
-        b'3' => out.extend(b"bad header length"),
-        b'4' => out.extend(b"fragment"),
-        b'5' => out.extend(b"other protocol"),
-        b'6' => out.extend(b"bad total length"),
-        b'7' => out.extend(b"no mapping"),
-        b'8' => out.extend(b"no free port"),
-        b'9' => out.extend(b"stray"),
-        _ => out.push(digit),
-    }
 }
 
 /// Appends the columns `epoch` and `event`.

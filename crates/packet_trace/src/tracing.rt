@@ -13,11 +13,10 @@ ghost use Rattle.packet_trace.specs.Tracing.{WritesTraced};
 
 use crate::filling::fill_rows;
 use crate::following::follow_schedule;
-use crate::lent::Lent;
 use crate::running::{Gone, run_events};
 use crate::steering::{Steered, steer_all};
 use crate::table::put_table;
-use box_program::Program;
+use box_program::{Lent, Program};
 use drill_report::copy_packets;
 use output_files::{OutputError, append, create, report};
 use plain_text::{Bytes, Limit, NoMemory, Text};

@@ -1,4 +1,4 @@
-use Rattle.drill_command.specs.declared.lent.Lent.{Lent}
+use Rattle.box_program.specs.declared.lent.Lent.{Lent}
 use Rattle.drill_command.specs.Ends.{setting_with}
 use Rattle.drill_command.proofs.Ended.{new_at}
 use Rattle.drill_command.proofs.running.run_box.Goals as goal

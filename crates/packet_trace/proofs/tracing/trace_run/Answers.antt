@@ -4,7 +4,7 @@ use Rattle.run_writes.specs.Run.{setting_of}
 use Rattle.event_replies.specs.declared.reply.Stop.{Stop}
 use Rattle.event_replies.specs.declared.reply.Stop.TheVariants as stop
 use Rattle.plain_text.specs.declared.limit.Limit.{Limit}
-use Rattle.packet_trace.specs.declared.lent.Lent.{Lent}
+use Rattle.box_program.specs.declared.lent.Lent.{Lent}
 use Rattle.packet_trace.specs.Going.{HasAllGone, IsHalted}
 use Rattle.packet_trace.proofs.TracingLemmas.{halted_comes, new_somewhere, new_stands, steered_so}
 use Rattle.packet_trace.proofs.Performed.{failed}

@@ -1,4 +1,4 @@
-use box_program::{Local, Move, Program};
+use crate::{Local, Move, Program};
 use plain_text::{Bytes, NoMemory, Packet, Text};
 use std::alloc::Global;
 
