@@ -16,7 +16,7 @@ use Rattle.nat_tables.specs.declared.entries.Find.TheVariants.{Live, Absent}
 use Rattle.nat_tables.specs.declared.entries.Bind.{Bind}
 use Rattle.nat_tables.specs.declared.entries.Bind.TheVariants.{Bound, Other}
 use Rattle.nat_tables.specs.Forwards.{find_or_bind, AreMappings}
-use Rattle.flow_boxes.specs.Drops.{reason_of, with_drop, no_drops}
+use Rattle.flow_boxes.specs.Drops.{reason_of, with_drop, no_drops, stray}
 use Rattle.balancer_box.specs.declared.backends.Backend.{Backend}
 use Rattle.balancer_box.specs.declared.place.Place.{Place}
 use Rattle.balancer_box.specs.declared.place.Place.TheVariants.{HearsTime, FindsConnection, LowersIdle, RaisesLeast}

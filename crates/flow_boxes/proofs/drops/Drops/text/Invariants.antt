@@ -1,7 +1,7 @@
 use Rattle.std.proofs.Common.{◌≡◌, ◌+◌, drop, []}
 use Rattle.std.specs.String.{string_bytes}
 use Rattle.flow_boxes.specs.Shown.{with_reasons}
-use Rattle.nat_box.proofs.value.Drops.text.Given as goal
+use Rattle.flow_boxes.proofs.drops.Drops.text.Given as goal
 
 -- what is left, behind the text so far, gives the whole
 abbrev pub invariant-loop-index : goal.invariant-loop-index
