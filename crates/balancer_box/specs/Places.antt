@@ -1,7 +1,6 @@
 -- Where the box is with a packet, and what it has noted of it, as a Local.
 use Rattle.std.specs.Prelude.{ℕ, ◌%◌, ◌^◌, Bool, true, false, ◌==◌, if◌then◌else◌, [], ◌∷◌, slice_index}
 use Rattle.plain_machine.specs.declared.local.Local.{Local}
-use Rattle.nat_tables.specs.declared.entries.Endpoint.{Endpoint}
 use Rattle.flow_boxes.specs.Flows.{endpoint}
 use Rattle.balancer_box.specs.declared.place.Place.{Place}
 use Rattle.balancer_box.specs.declared.place.Place.TheVariants.{HearsTime, FindsConnection, LowersIdle, RaisesLeast}

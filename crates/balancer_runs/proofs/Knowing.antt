@@ -1,14 +1,12 @@
 -- What is known of a packet in hand at each place, by what its own moves met.
-use Rattle.std.proofs.Common.{◌≡◌, ◌≢◌, ℕ, ◌+◌, ◌^◌, ◌<◌, Bool, true, false, List, [], ◌∷◌, length, refl}
+use Rattle.std.proofs.Common.{◌≡◌, ◌≢◌, ℕ, ◌+◌, ◌<◌, Bool, true, false, List, [], ◌∷◌, length, refl}
 use Rattle.std.proofs.Common.{sym, ap, ◌∙◌, subst, ◌⊎◌, inl, inr, arith, Option, Some, None}
-use Rattle.std.specs.Prelude.{◌==◌, ◌&&◌, slice_get, nat_eq, nat_lt, cond, not, bit_and, Result, Ok, Err}
-use Rattle.std.specs.List.{position_or_len}
-use Rattle.std.proofs.lemmas.Bool.Decides.{nat_tests}
+use Rattle.std.specs.Prelude.{◌==◌, ◌&&◌, slice_get, nat_eq, cond, not, bit_and, Result, Ok, Err}
 use Rattle.plain_text.specs.declared.packet.Packet.{Packet}
 use Rattle.entry_order.proofs.Order.{is_or}
 use Rattle.packet_headers.specs.declared.flow.Flow.{Flow}
 use Rattle.packet_headers.specs.declared.flow.NotFlow.{NotFlow}
-use Rattle.packet_headers.specs.Fields.{AreBytes, word_at, long_at, header_end}
+use Rattle.packet_headers.specs.Fields.{AreBytes}
 use Rattle.packet_headers.specs.View.{viewed, flow_of, failures}
 use Rattle.packet_headers.proofs.FirstFailure.{pass_from_ok}
 use Rattle.plain_machine.specs.declared.local.Move.TheVariants.{Access, Clock}
@@ -32,13 +30,12 @@ use Rattle.balancer_box.specs.declared.place.Class.TheVariants.{Client, Answer}
 use Rattle.balancer_box.specs.declared.place.Noted.{Noted}
 use Rattle.balancer_box.specs.declared.value.BalancerValue.{BalancerValue}
 use Rattle.balancer_box.specs.declared.value.BalancerValue.TheVariants.{Dropped, Loaded, Connected}
-use Rattle.balancer_box.specs.declared.backends.Backend.{Backend}
 use Rattle.balancer_box.specs.declared.place.Goes.{Goes}
 use Rattle.balancer_box.specs.Loads.{least_loaded}
 use Rattle.balancer_box.specs.Connections.{without_if, find_connection}
 use Rattle.balancer_box.specs.Places.{place_numbered}
-use Rattle.balancer_box.specs.Balancer.{Settings, goes, next_move, resets, is_virtual, backend_at, nothing_noted}
-use Rattle.balancer_box.specs.Balancer.{of_client, of_answer, begun_answer, begun_flow, begun, begins, goes_to}
+use Rattle.balancer_box.specs.Balancer.{Settings, goes, next_move, resets, is_virtual, backend_at}
+use Rattle.balancer_box.specs.Balancer.{of_client, begun_answer, begun_flow, begun, begins, goes_to}
 use Rattle.balancer_box.specs.Balancer.{after_find, after_bind, after_check, touched, after_time, told, local_at}
 use Rattle.balancer_box.specs.Balancer.{noted_by, balancer_meaning, Fits}
 use Rattle.balancer_box.specs.Noting.{place_again, IsNoted, is_noted, noted_again}

@@ -1,5 +1,5 @@
 -- What is small enough in a frame of bytes, and how an endpoint's slot is found after a refresh and after a bind.
-use Rattle.std.proofs.Common.{◌≡◌, ℕ, ◌+◌, ◌*◌, ◌^◌, ◌<◌, Bool, true, false, List, [], ◌∷◌, ◌++◌, refl, ap, arith}
+use Rattle.std.proofs.Common.{◌≡◌, ℕ, ◌+◌, ◌^◌, ◌<◌, Bool, true, false, List, [], ◌∷◌, ◌++◌, refl, ap, arith}
 use Rattle.std.proofs.Common.{Some, None}
 use Rattle.std.specs.Prelude.{◌==◌, if◌then◌else◌}
 use Rattle.std.proofs.lemmas.Bool.Decides.{nat_tests}
@@ -19,10 +19,10 @@ pub record IsWhole (flow : Flow) : Type 0 where
   pub dest : flow.dest < 2 ^ 32
   pub dest_port : flow.dest_port < 2 ^ 16
 
-word_fits : (frame : List ℕ) (place : ℕ) → AreBytes frame → word_at frame place < 2 ^ 16
+pub word_fits : (frame : List ℕ) (place : ℕ) → AreBytes frame → word_at frame place < 2 ^ 16
 word_fits frame place bytes = let a = bytes place in let b = bytes (place + 1) in omega arith
 
-long_fits : (frame : List ℕ) (place : ℕ) → AreBytes frame → long_at frame place < 2 ^ 32
+pub long_fits : (frame : List ℕ) (place : ℕ) → AreBytes frame → long_at frame place < 2 ^ 32
 long_fits frame place bytes =
     let a = word_fits frame place bytes in let b = word_fits frame (place + 2) bytes in omega arith
 

@@ -1,7 +1,6 @@
 -- What the Local of a packet in hand says: the place of its next move, and what was noted.
 use Rattle.std.specs.Prelude.{ℕ, ◌%◌, ◌^◌, [], ◌∷◌, slice_index, ◌==◌, if◌then◌else◌}
 use Rattle.plain_machine.specs.declared.local.Local.{Local}
-use Rattle.nat_tables.specs.declared.entries.Endpoint.{Endpoint}
 use Rattle.nat_tables.specs.declared.entries.PortKey.{PortKey}
 use Rattle.nat_tables.specs.Keys.{port_key}
 use Rattle.flow_boxes.specs.Flows.{endpoint}

@@ -21,7 +21,8 @@ use Rattle.nat_runs.specs.Met.{Met, met_of}
 use Rattle.nat_runs.specs.Inbound.{IsInbound, InboundChangesNoTable}
 use Rattle.nat_runs.proofs.ThreadMoves.{TouchKind, finds, unbinds_freed, gives_freed, reserves, binds, finds_or_binds}
 use Rattle.nat_runs.proofs.ThreadMoves.{unbinds_lost, gives_lost, counts, touch_kind, at, touched_below, by_move}
-use Rattle.nat_runs.proofs.Knowing.{IsOutward, IsOnWay, KnownAt, Known, run_known}
+use Rattle.nat_box.proofs.Emissions.{IsOutward}
+use Rattle.nat_runs.proofs.Knowing.{IsOnWay, KnownAt, Known, run_known}
 
 -- an inbound packet is not on its way to a mapping of its source
 not_on_way : (s : Settings) (m : Met) (p : Packet) (n : Noted) → IsInbound s p → IsOnWay s m p n → ⊥

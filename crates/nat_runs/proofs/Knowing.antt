@@ -9,7 +9,7 @@ use Rattle.packet_headers.specs.declared.flow.Flow.{Flow}
 use Rattle.packet_headers.specs.declared.flow.NotFlow.{NotFlow}
 use Rattle.packet_headers.specs.declared.flow.NotFlow.TheVariants.{Short, NotIpv4, BadHeaderLength, Fragment}
 use Rattle.packet_headers.specs.declared.flow.NotFlow.TheVariants.{OtherProtocol, BadTotalLength}
-use Rattle.packet_headers.specs.Fields.{AreBytes, word_at, long_at, header_end}
+use Rattle.packet_headers.specs.Fields.{AreBytes, header_end}
 use Rattle.packet_headers.specs.View.{viewed, flow_of, failures}
 use Rattle.packet_headers.proofs.FirstFailure.{pass_from_ok}
 use Rattle.plain_machine.specs.Machine.{Hand, Thread, Effect, Moves, held_move}
@@ -39,7 +39,7 @@ use Rattle.nat_box.specs.declared.value.NatValue.TheVariants.{Dropped, Free, Map
 use Rattle.flow_boxes.specs.Flows.{endpoint, source_of}
 use Rattle.nat_box.specs.Places.{place_numbered, noted, dest_key, local_of}
 use Rattle.nat_box.specs.declared.place.Goes.{Goes}
-use Rattle.nat_box.specs.Nat.{Settings, goes, forward_table, reverse_table, class_of_flow, noted_flow, nothing_noted}
+use Rattle.nat_box.specs.Nat.{Settings, goes, forward_table, reverse_table, class_of_flow, noted_flow}
 use Rattle.flow_boxes.specs.Drops.{reason_of}
 use Rattle.nat_box.specs.Nat.{begun_as}
 use Rattle.nat_box.specs.Nat.{begun, mapped, after_find, after_reserve, after_bind, touched, after_endpoint, looked_by}
@@ -55,8 +55,8 @@ use Rattle.nat_runs.specs.Met.{Met, nothing_met, met_by_touch, met_by_read, met_
 use Rattle.nat_runs.specs.Causes.{IsUnbound, HasNoneUsed, FoundNoneUsed, Cause}
 use Rattle.nat_runs.proofs.TableEntries.{endpoint_in, not_bound, AreIdle, lives_not, may_endpoint, may_mapping}
 use Rattle.nat_runs.proofs.TableEntries.{none_free}
-use Rattle.flow_boxes.proofs.Fitting.{IsWhole, whole, slot_refreshed, slot_bound}
-use Rattle.nat_box.proofs.Emissions.{IsOutward, IsInward, IfOutward, worded, targeted, nothing_is_noted}
+use Rattle.flow_boxes.proofs.Fitting.{word_fits, long_fits, slot_refreshed, slot_bound}
+use Rattle.nat_box.proofs.Emissions.{IsOutward, IsInward, IfOutward, worded, targeted}
 use Rattle.nat_runs.proofs.ThreadMoves.{TouchKind, finds, unbinds_freed, gives_freed, reserves, binds, finds_or_binds}
 use Rattle.nat_runs.proofs.ThreadMoves.{unbinds_lost, gives_lost, counts, LookKind, finds_endpoint, asks, touch_kind}
 use Rattle.nat_runs.proofs.ThreadMoves.{look_kind, at_clock, at_draw, at, touched_below, read_below, by_move}

@@ -35,7 +35,8 @@ use Rattle.nat_runs.proofs.TableEntries.{slot_in, WasOr, refresh_was, bound_was,
 use Rattle.nat_runs.proofs.ThreadMoves.{TouchKind, finds, unbinds_freed, gives_freed, reserves, binds, finds_or_binds}
 use Rattle.nat_runs.proofs.ThreadMoves.{unbinds_lost, gives_lost, counts, touch_kind, at_emit, at, touched_below}
 use Rattle.nat_runs.proofs.ThreadMoves.{by_move}
-use Rattle.nat_runs.proofs.Knowing.{from_inside, IsBase, IfOutward, Refreshed, IsOnWay, KnownAt, Known, run_known}
+use Rattle.nat_box.proofs.Emissions.{IfOutward}
+use Rattle.nat_runs.proofs.Knowing.{from_inside, IsBase, Refreshed, IsOnWay, KnownAt, Known, run_known}
 
 -- What a touch leaves
 
