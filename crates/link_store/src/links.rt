@@ -1,12 +1,17 @@
 ghost use Rattle.std.specs.Prelude.{◌≡◌, ◌<◌, ℕ, List, [], Some, None, IsSome, OnOk, OnErr, IfOk};
 ghost use Rattle.std.specs.Prelude.{IfSome, IfNone, length, option_copied, slice_index_or};
+ghost use Rattle.plain_text.specs.declared.kind.Kind.TheVariants.{Out};
+ghost use Rattle.wire_frames.specs.declared.frame.Frame.TheVariants as frame_is;
+ghost use Rattle.wire_frames.specs.Layout.{written, IsFrame};
+ghost use Rattle.wire_frames.specs.Writing.{CanPutOutput};
 ghost use Rattle.link_store.specs.declared.address.Address.{Address};
 ghost use Rattle.link_store.specs.Links.{address, frame_at, Sends, Forgets, IsUpTo, IsOfEpoch};
 ghost use Rattle.link_store.specs.Runs.{Run as RunValue, all_of, IsFirstTaker, NoneTakes};
 ghost use Rattle.link_store.specs.Runs.{ForgetsEach};
 
-use crate::Address;
 use crate::run::Run;
+use crate::{Address, KeptFrame};
+use access_log::Output;
 use plain_text::{Bytes, Kind, NoMemory};
 use std::alloc::Global;
 use std::collections::BTreeMap;
@@ -27,7 +32,7 @@ const MOST_RUNS: usize = 64;
 pub struct Links {
     alloc: Global,
     runs: Vec<Run>,
-    others: BTreeMap<Address, Bytes>,
+    others: BTreeMap<Address, KeptFrame>,
 }
 
 impl Model for Links {
@@ -67,7 +72,7 @@ fn empty_run(runs: &Vec<Run>) -> Option<usize>
 }
 
 /// The frame at this address in the runs.
-fn in_runs<'a>(runs: &'a Vec<Run>, at: &Address) -> Option<&'a Bytes>
+fn in_runs<'a>(runs: &'a Vec<Run>, at: &Address) -> Option<&'a KeptFrame>
     ensures found { (others : List (Address × List ℕ)) → IfSome result (λ frame.
         frame_at (all_of runs.now.items others) at.now ≡ Some frame.now) }
     ensures none { (others : List (Address × List ℕ)) → IfNone result
@@ -101,7 +106,7 @@ fn forget_epoch_in_runs(runs: &mut Vec<Run>, epoch: u32)
 }
 
 /// The first address of this epoch, kind and thread, where its number is at most this one.
-fn first_up_to(frames: &BTreeMap<Address, Bytes>, last: Address) -> Option<Address>
+fn first_up_to(frames: &BTreeMap<Address, KeptFrame>, last: Address) -> Option<Address>
     ensures found { IfSome result (λ a. IsUpTo last a × IsSome (frame_at frames.now.entries a)) }
     ensures none { IfNone result ((a : Address) → IsUpTo last a
         → frame_at frames.now.entries a ≡ None) }
@@ -112,7 +117,7 @@ fn first_up_to(frames: &BTreeMap<Address, Bytes>, last: Address) -> Option<Addre
 }
 
 /// The first address of this epoch.
-fn first_of_epoch(frames: &BTreeMap<Address, Bytes>, epoch: u32) -> Option<Address>
+fn first_of_epoch(frames: &BTreeMap<Address, KeptFrame>, epoch: u32) -> Option<Address>
     ensures found { IfSome result (λ a.
         (a.epoch ≡ epoch) × IsSome (frame_at frames.now.entries a)) }
     ensures none { IfNone result ((a : Address) → a.epoch ≡ epoch
@@ -132,7 +137,7 @@ fn first_of_epoch(frames: &BTreeMap<Address, Bytes>, epoch: u32) -> Option<Addre
 }
 
 /// Drops the frames of this epoch, kind and thread with a number up to this one.
-fn drop_up_to(frames: &mut BTreeMap<Address, Bytes>, last: Address)
+fn drop_up_to(frames: &mut BTreeMap<Address, KeptFrame>, last: Address)
     ensures { Forgets (IsUpTo last) frames.old.entries frames.new.entries }
 {
     if frames.is_empty() {
@@ -144,7 +149,7 @@ fn drop_up_to(frames: &mut BTreeMap<Address, Bytes>, last: Address)
 }
 
 /// Drops the frames of this epoch.
-fn drop_epoch(frames: &mut BTreeMap<Address, Bytes>, epoch: u32)
+fn drop_epoch(frames: &mut BTreeMap<Address, KeptFrame>, epoch: u32)
     ensures { Forgets (IsOfEpoch epoch) frames.old.entries frames.new.entries }
 {
     while let Some(address) = first_of_epoch(frames, epoch) {
@@ -156,9 +161,9 @@ fn drop_epoch(frames: &mut BTreeMap<Address, Bytes>, epoch: u32)
 fn send_apart(
     alloc: Global,
     runs: &mut Vec<Run>,
-    others: &mut BTreeMap<Address, Bytes>,
+    others: &mut BTreeMap<Address, KeptFrame>,
     at: Address,
-    frame: Bytes,
+    frame: KeptFrame,
 ) -> Result<(), NoMemory>
     requires { NoneTakes runs.old.items at }
     ensures ok { OnOk result (Sends (all_of runs.old.items others.old.entries)
@@ -208,6 +213,40 @@ impl Links {
             thread,
             number,
         };
+        self.keep(address, KeptFrame::of_bytes(frame))
+    }
+
+    /// Keeps an output as the value that it is, in place of the frame that `put_output` would write of it. After
+    /// `NoMemory` the links are as before, and the output is dropped.
+    pub fn send_output(
+        &mut self,
+        epoch: u32,
+        threads: u32,
+        output: Output,
+    ) -> Result<(), NoMemory>
+        requires { CanPutOutput epoch threads output }
+        ensures ok { OnOk result (Sends self.old self.new
+            (address epoch Out output.thread output.number)
+            (written (frame_is.Output epoch threads output))) }
+        ensures err { OnErr result (self.new ≡ self.old) }
+        ensures frame { IsFrame (written (frame_is.Output epoch threads output))
+            (frame_is.Output epoch threads output) }
+    {
+        let address = Address {
+            epoch,
+            kind: Kind::Out,
+            thread: output.thread,
+            number: output.number,
+        };
+        let frame = KeptFrame::of_output(self.alloc, epoch, threads, output)?;
+        self.keep(address, frame)
+    }
+
+    /// Keeps this frame as the one last sent to the address.
+    fn keep(&mut self, address: Address, frame: KeptFrame) -> Result<(), NoMemory>
+        ensures ok { OnOk result (Sends self.old self.new address frame) }
+        ensures err { OnErr result (self.new ≡ self.old) }
+    {
         match taker(&self.runs, &address) {
             Some(i) => self.runs[i].put(&address, frame),
             None => send_apart(self.alloc, &mut self.runs, &mut self.others, address, frame),
@@ -216,7 +255,7 @@ impl Links {
 
     /// The frame last sent under these numbers and not forgotten since; `None` exactly where there is none. It takes no
     /// memory.
-    pub fn fetch(&self, epoch: u32, kind: Kind, thread: u32, number: u64) -> Option<&[u8]>
+    pub fn fetch(&self, epoch: u32, kind: Kind, thread: u32, number: u64) -> Option<&KeptFrame>
         ensures frame { option_copied result
             ≡ frame_at self.now (address epoch kind thread number) }
     {
@@ -227,8 +266,8 @@ impl Links {
             number,
         };
         match in_runs(&self.runs, &address) {
-            Some(frame) => Some(frame.as_slice()),
-            None => Some(self.others.get(&address)?.as_slice()),
+            Some(frame) => Some(frame),
+            None => self.others.get(&address),
         }
     }
 
