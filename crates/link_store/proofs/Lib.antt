@@ -1,3 +1,4 @@
 pub mod AddressOrder
 pub mod AllLemmas
+pub mod EntryLemmas
 pub mod RunLemmas

@@ -31,6 +31,8 @@ const MOST_RUNS: usize = 64;
 #[derive(Debug, Drop)]
 pub struct Links {
     alloc: Global,
+    /// Whether a frame was sent as its bytes. Where none was, none is that of an entry.
+    spelled: bool,
     runs: Vec<Run>,
     others: BTreeMap<Address, KeptFrame>,
 }
@@ -38,11 +40,13 @@ pub struct Links {
 impl Model for Links {
     ghost use Rattle.std.specs.Prelude.{List, ℕ};
     ghost use Rattle.link_store.specs.declared.address.Address.{Address};
-    ghost use Rattle.link_store.specs.Runs.{all_of};
+    ghost use Rattle.link_store.specs.Runs.{all_of, HaveNoEntry};
 
     ghost Value = { List (Address × List ℕ) };
 
     ghost view = { λ l. all_of l.runs.items l.others.entries };
+
+    ghost invariant = { λ l. HaveNoEntry l.spelled (all_of l.runs.items l.others.entries) };
 }
 
 /// The first of the runs that has a place for a frame at this address.
@@ -181,6 +185,25 @@ fn send_apart(
     Ok(())
 }
 
+/// Keeps this frame as the one last sent to the address.
+fn keep(
+    alloc: Global,
+    runs: &mut Vec<Run>,
+    others: &mut BTreeMap<Address, KeptFrame>,
+    at: Address,
+    frame: KeptFrame,
+) -> Result<(), NoMemory>
+    ensures ok { OnOk result (Sends (all_of runs.old.items others.old.entries)
+        (all_of runs.new.items others.new.entries) at frame) }
+    ensures err { OnErr result (all_of runs.new.items others.new.entries
+        ≡ all_of runs.old.items others.old.entries) }
+{
+    match taker(runs, &at) {
+        Some(i) => runs[i].put(&at, frame),
+        None => send_apart(alloc, runs, others, at, frame),
+    }
+}
+
 impl Links {
     /// Nothing was sent.
     pub fn new(alloc: Global) -> Result<Self, NoMemory>
@@ -188,6 +211,7 @@ impl Links {
     {
         Ok(Links {
             alloc,
+            spelled: false,
             runs: Vec::new(alloc),
             others: BTreeMap::new(alloc),
         })
@@ -213,7 +237,15 @@ impl Links {
             thread,
             number,
         };
-        self.keep(address, KeptFrame::of_bytes(frame))
+        self.spelled = true;
+        let frame = KeptFrame::of_bytes(frame);
+        keep(
+            self.alloc,
+            &mut self.runs,
+            &mut self.others,
+            address,
+            frame,
+        )
     }
 
     /// Keeps an output as the value that it is, in place of the frame that `put_output` would write of it. After
@@ -239,18 +271,13 @@ impl Links {
             number: output.number,
         };
         let frame = KeptFrame::of_output(self.alloc, epoch, threads, output)?;
-        self.keep(address, frame)
-    }
-
-    /// Keeps this frame as the one last sent to the address.
-    fn keep(&mut self, address: Address, frame: KeptFrame) -> Result<(), NoMemory>
-        ensures ok { OnOk result (Sends self.old self.new address frame) }
-        ensures err { OnErr result (self.new ≡ self.old) }
-    {
-        match taker(&self.runs, &address) {
-            Some(i) => self.runs[i].put(&address, frame),
-            None => send_apart(self.alloc, &mut self.runs, &mut self.others, address, frame),
-        }
+        keep(
+            self.alloc,
+            &mut self.runs,
+            &mut self.others,
+            address,
+            frame,
+        )
     }
 
     /// The frame last sent under these numbers and not forgotten since; `None` exactly where there is none. It takes no
@@ -271,7 +298,8 @@ impl Links {
         }
     }
 
-    /// Forgets the frames of this epoch, kind and thread with numbers up to this one. It takes no memory.
+    /// Forgets the frames of this epoch, kind and thread with numbers up to this one. It takes no memory, and where no
+    /// frame was sent as its bytes it is done with entries at once.
     pub fn forget(&mut self, epoch: u32, kind: Kind, thread: u32, up_to: u64)
         ensures forgotten { Forgets (IsUpTo (address epoch kind thread up_to)) self.old self.new }
     {
@@ -281,6 +309,9 @@ impl Links {
             thread,
             number: up_to,
         };
+        if kind == Kind::Log && !self.spelled {
+            return;
+        }
         forget_in_runs(&mut self.runs, &last);
         drop_up_to(&mut self.others, last);
     }
