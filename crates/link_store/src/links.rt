@@ -239,23 +239,12 @@ impl Links {
         };
         self.spelled = true;
         let frame = KeptFrame::of_bytes(frame);
-        keep(
-            self.alloc,
-            &mut self.runs,
-            &mut self.others,
-            address,
-            frame,
-        )
+        keep(self.alloc, &mut self.runs, &mut self.others, address, frame)
     }
 
     /// Keeps an output as the value that it is, in place of the frame that `put_output` would write of it. After
     /// `NoMemory` the links are as before, and the output is dropped.
-    pub fn send_output(
-        &mut self,
-        epoch: u32,
-        threads: u32,
-        output: Output,
-    ) -> Result<(), NoMemory>
+    pub fn send_output(&mut self, epoch: u32, threads: u32, output: Output) -> Result<(), NoMemory>
         requires { CanPutOutput epoch threads output }
         ensures ok { OnOk result (Sends self.old self.new
             (address epoch Out output.thread output.number)
@@ -271,13 +260,7 @@ impl Links {
             number: output.number,
         };
         let frame = KeptFrame::of_output(self.alloc, epoch, threads, output)?;
-        keep(
-            self.alloc,
-            &mut self.runs,
-            &mut self.others,
-            address,
-            frame,
-        )
+        keep(self.alloc, &mut self.runs, &mut self.others, address, frame)
     }
 
     /// The frame last sent under these numbers and not forgotten since; `None` exactly where there is none. It takes no
