@@ -8,6 +8,7 @@ use plain_text::NoMemory;
 use std::alloc::Global;
 use std::collections::VecDeque;
 use std::marker::Model;
+use std::mem;
 
 /// Frames of one epoch, kind and thread whose numbers follow one another.
 #[derive(Debug, Drop)]
@@ -80,7 +81,7 @@ impl Run {
     {
         let place = (at.number - self.first.number) as usize;
         if place < self.frames.len() {
-            self.frames[place] = frame;
+            drop(mem::replace(&mut self.frames[place], frame));
         } else {
             self.frames.push_back(frame)?;
         }
