@@ -1,8 +1,7 @@
 -- Where no frame was sent as its bytes, none is that of an entry.
-use Rattle.std.proofs.Common.{◌≡◌, ◌≢◌, ℕ, Bool, List, Option, Some, None, Result, Ok, Err, OnOk, OnErr, Unit, refl}
+use Rattle.std.proofs.Common.{◌≡◌, ℕ, Bool, List, Option, Some, None, Result, Ok, Err, OnOk, OnErr, Unit, refl}
 use Rattle.std.proofs.Common.{sym, ap, ◌∙◌, subst}
 use Rattle.plain_text.specs.declared.memory.NoMemory.{NoMemory}
-use Rattle.plain_text.specs.declared.kind.Kind.{Kind}
 use Rattle.plain_text.specs.declared.kind.Kind.TheVariants.{Log, Out}
 use Rattle.link_store.specs.declared.address.Address.{Address}
 use Rattle.link_store.specs.Links.{frame_at, Sends, Forgets, IsUpTo}

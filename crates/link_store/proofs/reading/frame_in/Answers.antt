@@ -1,16 +1,7 @@
-use Rattle.std.proofs.Common.{◌≡◌, ℕ, Some, Err, Result, length, ap, subst, ◌∙◌}
+use Rattle.std.proofs.Common.{Some, Err, length, ap, ◌∙◌}
 use Rattle.wire_frames.proofs.Whole.{begins_whole}
-use Rattle.wire_frames.specs.declared.frame.Frame.{Frame}
-use Rattle.wire_frames.specs.declared.frame.FrameError.{FrameError}
-use Rattle.wire_frames.specs.declared.frame.FrameError.TheVariants as error
-use Rattle.wire_frames.specs.declared.frame.FrameFault.{FrameFault}
-use Rattle.wire_frames.specs.Faults.{Gives}
+use Rattle.link_store.proofs.KeptLemmas.{gives_no_fault}
 use Rattle.link_store.proofs.reading.frame_in.Goals as goal
-
--- a frame is not at fault
-gives_no_fault : (r : Result (Frame × ℕ) FrameError) (fault : FrameFault) (f : Frame) (size : ℕ)
-    → r ≡ Err (error.Fault fault) → Gives r f size → ⊥
-gives_no_fault r fault f size is gives = subst (λ (q : Result (Frame × ℕ) FrameError). Gives q f size) is gives
 
 pub returns-in-Ok : goal.returns-in-Ok
 returns-in-Ok c f is =
