@@ -31,8 +31,8 @@ enum Form {
 
 /// A frame on a link. Contracts see its bytes.
 ///
-/// That of an output may be kept as the output itself: then its bytes are those that `put_output` would write of it, and
-/// stand nowhere.
+/// That of an output may be kept as the output itself: then its bytes are those that `put_output` would write of it,
+/// and stand nowhere.
 #[derive(Debug, Drop)]
 pub struct KeptFrame {
     form: Form,
