@@ -1,3 +1,5 @@
 pub mod AddressOrder
 pub mod AllLemmas
+pub mod EntryLemmas
+pub mod KeptLemmas
 pub mod RunLemmas

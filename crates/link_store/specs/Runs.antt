@@ -1,7 +1,8 @@
 -- The frames on the links as a few runs, each of frames whose numbers follow one another, and the rest one by one.
-use Rattle.std.specs.Prelude.{◌≡◌, ℕ, ◌+◌, ◌<◌, ◌≤◌, List, [], ◌∷◌, ◌++◌, length, slice_index_or}
+use Rattle.std.specs.Prelude.{◌≡◌, ℕ, ◌+◌, ◌<◌, ◌≤◌, Bool, false, List, [], ◌∷◌, ◌++◌, None, length, slice_index_or}
+use Rattle.plain_text.specs.declared.kind.Kind.TheVariants.{Log}
 use Rattle.link_store.specs.declared.address.Address.{Address}
-use Rattle.link_store.specs.Links.{address, Forgets}
+use Rattle.link_store.specs.Links.{address, frame_at, Forgets}
 
 -- the address this many numbers on
 abbrev pub later : Address → ℕ → Address
@@ -45,3 +46,7 @@ pub record ForgetsEach (P : Address → Type 0) (old new : List Run) : Type 0 wh
   pub as_many : length new ≡ length old
   pub each : (j : ℕ) (d : Run) → j < length old
       → Forgets P (frames_of (slice_index_or old j d)) (frames_of (slice_index_or new j d))
+
+-- unless one was sent as its bytes, no frame is that of an entry
+abbrev pub HaveNoEntry : Bool → List (Address × List ℕ) → Type 0
+HaveNoEntry spelled links = spelled ≡ false → (a : Address) → a.kind ≡ Log → frame_at links a ≡ None

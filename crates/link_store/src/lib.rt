@@ -2,8 +2,11 @@
 #![tactic(auto)]
 
 mod address;
+mod kept;
 mod links;
+mod reading;
 mod run;
 
 pub use address::Address;
+pub use kept::KeptFrame;
 pub use links::Links;

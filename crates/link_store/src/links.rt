@@ -1,12 +1,17 @@
 ghost use Rattle.std.specs.Prelude.{◌≡◌, ◌<◌, ℕ, List, [], Some, None, IsSome, OnOk, OnErr, IfOk};
 ghost use Rattle.std.specs.Prelude.{IfSome, IfNone, length, option_copied, slice_index_or};
+ghost use Rattle.plain_text.specs.declared.kind.Kind.TheVariants.{Out};
+ghost use Rattle.wire_frames.specs.declared.frame.Frame.TheVariants as frame_is;
+ghost use Rattle.wire_frames.specs.Layout.{written, IsFrame};
+ghost use Rattle.wire_frames.specs.Writing.{CanPutOutput};
 ghost use Rattle.link_store.specs.declared.address.Address.{Address};
 ghost use Rattle.link_store.specs.Links.{address, frame_at, Sends, Forgets, IsUpTo, IsOfEpoch};
 ghost use Rattle.link_store.specs.Runs.{Run as RunValue, all_of, IsFirstTaker, NoneTakes};
 ghost use Rattle.link_store.specs.Runs.{ForgetsEach};
 
-use crate::Address;
 use crate::run::Run;
+use crate::{Address, KeptFrame};
+use access_log::Output;
 use plain_text::{Bytes, Kind, NoMemory};
 use std::alloc::Global;
 use std::collections::BTreeMap;
@@ -26,18 +31,22 @@ const MOST_RUNS: usize = 64;
 #[derive(Debug, Drop)]
 pub struct Links {
     alloc: Global,
+    /// Whether a frame was sent as its bytes. Where none was, none is that of an entry.
+    spelled: bool,
     runs: Vec<Run>,
-    others: BTreeMap<Address, Bytes>,
+    others: BTreeMap<Address, KeptFrame>,
 }
 
 impl Model for Links {
     ghost use Rattle.std.specs.Prelude.{List, ℕ};
     ghost use Rattle.link_store.specs.declared.address.Address.{Address};
-    ghost use Rattle.link_store.specs.Runs.{all_of};
+    ghost use Rattle.link_store.specs.Runs.{all_of, HaveNoEntry};
 
     ghost Value = { List (Address × List ℕ) };
 
     ghost view = { λ l. all_of l.runs.items l.others.entries };
+
+    ghost invariant = { λ l. HaveNoEntry l.spelled (all_of l.runs.items l.others.entries) };
 }
 
 /// The first of the runs that has a place for a frame at this address.
@@ -67,7 +76,7 @@ fn empty_run(runs: &Vec<Run>) -> Option<usize>
 }
 
 /// The frame at this address in the runs.
-fn in_runs<'a>(runs: &'a Vec<Run>, at: &Address) -> Option<&'a Bytes>
+fn in_runs<'a>(runs: &'a Vec<Run>, at: &Address) -> Option<&'a KeptFrame>
     ensures found { (others : List (Address × List ℕ)) → IfSome result (λ frame.
         frame_at (all_of runs.now.items others) at.now ≡ Some frame.now) }
     ensures none { (others : List (Address × List ℕ)) → IfNone result
@@ -101,7 +110,7 @@ fn forget_epoch_in_runs(runs: &mut Vec<Run>, epoch: u32)
 }
 
 /// The first address of this epoch, kind and thread, where its number is at most this one.
-fn first_up_to(frames: &BTreeMap<Address, Bytes>, last: Address) -> Option<Address>
+fn first_up_to(frames: &BTreeMap<Address, KeptFrame>, last: Address) -> Option<Address>
     ensures found { IfSome result (λ a. IsUpTo last a × IsSome (frame_at frames.now.entries a)) }
     ensures none { IfNone result ((a : Address) → IsUpTo last a
         → frame_at frames.now.entries a ≡ None) }
@@ -112,7 +121,7 @@ fn first_up_to(frames: &BTreeMap<Address, Bytes>, last: Address) -> Option<Addre
 }
 
 /// The first address of this epoch.
-fn first_of_epoch(frames: &BTreeMap<Address, Bytes>, epoch: u32) -> Option<Address>
+fn first_of_epoch(frames: &BTreeMap<Address, KeptFrame>, epoch: u32) -> Option<Address>
     ensures found { IfSome result (λ a.
         (a.epoch ≡ epoch) × IsSome (frame_at frames.now.entries a)) }
     ensures none { IfNone result ((a : Address) → a.epoch ≡ epoch
@@ -132,7 +141,7 @@ fn first_of_epoch(frames: &BTreeMap<Address, Bytes>, epoch: u32) -> Option<Addre
 }
 
 /// Drops the frames of this epoch, kind and thread with a number up to this one.
-fn drop_up_to(frames: &mut BTreeMap<Address, Bytes>, last: Address)
+fn drop_up_to(frames: &mut BTreeMap<Address, KeptFrame>, last: Address)
     ensures { Forgets (IsUpTo last) frames.old.entries frames.new.entries }
 {
     if frames.is_empty() {
@@ -144,7 +153,7 @@ fn drop_up_to(frames: &mut BTreeMap<Address, Bytes>, last: Address)
 }
 
 /// Drops the frames of this epoch.
-fn drop_epoch(frames: &mut BTreeMap<Address, Bytes>, epoch: u32)
+fn drop_epoch(frames: &mut BTreeMap<Address, KeptFrame>, epoch: u32)
     ensures { Forgets (IsOfEpoch epoch) frames.old.entries frames.new.entries }
 {
     while let Some(address) = first_of_epoch(frames, epoch) {
@@ -156,9 +165,9 @@ fn drop_epoch(frames: &mut BTreeMap<Address, Bytes>, epoch: u32)
 fn send_apart(
     alloc: Global,
     runs: &mut Vec<Run>,
-    others: &mut BTreeMap<Address, Bytes>,
+    others: &mut BTreeMap<Address, KeptFrame>,
     at: Address,
-    frame: Bytes,
+    frame: KeptFrame,
 ) -> Result<(), NoMemory>
     requires { NoneTakes runs.old.items at }
     ensures ok { OnOk result (Sends (all_of runs.old.items others.old.entries)
@@ -176,6 +185,25 @@ fn send_apart(
     Ok(())
 }
 
+/// Keeps this frame as the one last sent to the address.
+fn keep(
+    alloc: Global,
+    runs: &mut Vec<Run>,
+    others: &mut BTreeMap<Address, KeptFrame>,
+    at: Address,
+    frame: KeptFrame,
+) -> Result<(), NoMemory>
+    ensures ok { OnOk result (Sends (all_of runs.old.items others.old.entries)
+        (all_of runs.new.items others.new.entries) at frame) }
+    ensures err { OnErr result (all_of runs.new.items others.new.entries
+        ≡ all_of runs.old.items others.old.entries) }
+{
+    match taker(runs, &at) {
+        Some(i) => runs[i].put(&at, frame),
+        None => send_apart(alloc, runs, others, at, frame),
+    }
+}
+
 impl Links {
     /// Nothing was sent.
     pub fn new(alloc: Global) -> Result<Self, NoMemory>
@@ -183,6 +211,7 @@ impl Links {
     {
         Ok(Links {
             alloc,
+            spelled: false,
             runs: Vec::new(alloc),
             others: BTreeMap::new(alloc),
         })
@@ -208,15 +237,35 @@ impl Links {
             thread,
             number,
         };
-        match taker(&self.runs, &address) {
-            Some(i) => self.runs[i].put(&address, frame),
-            None => send_apart(self.alloc, &mut self.runs, &mut self.others, address, frame),
-        }
+        self.spelled = true;
+        let frame = KeptFrame::of_bytes(frame);
+        keep(self.alloc, &mut self.runs, &mut self.others, address, frame)
+    }
+
+    /// Keeps an output as the value that it is, in place of the frame that `put_output` would write of it. After
+    /// `NoMemory` the links are as before, and the output is dropped.
+    pub fn send_output(&mut self, epoch: u32, threads: u32, output: Output) -> Result<(), NoMemory>
+        requires { CanPutOutput epoch threads output }
+        ensures ok { OnOk result (Sends self.old self.new
+            (address epoch Out output.thread output.number)
+            (written (frame_is.Output epoch threads output))) }
+        ensures err { OnErr result (self.new ≡ self.old) }
+        ensures frame { IsFrame (written (frame_is.Output epoch threads output))
+            (frame_is.Output epoch threads output) }
+    {
+        let address = Address {
+            epoch,
+            kind: Kind::Out,
+            thread: output.thread,
+            number: output.number,
+        };
+        let frame = KeptFrame::of_output(self.alloc, epoch, threads, output)?;
+        keep(self.alloc, &mut self.runs, &mut self.others, address, frame)
     }
 
     /// The frame last sent under these numbers and not forgotten since; `None` exactly where there is none. It takes no
     /// memory.
-    pub fn fetch(&self, epoch: u32, kind: Kind, thread: u32, number: u64) -> Option<&[u8]>
+    pub fn fetch(&self, epoch: u32, kind: Kind, thread: u32, number: u64) -> Option<&KeptFrame>
         ensures frame { option_copied result
             ≡ frame_at self.now (address epoch kind thread number) }
     {
@@ -227,12 +276,13 @@ impl Links {
             number,
         };
         match in_runs(&self.runs, &address) {
-            Some(frame) => Some(frame.as_slice()),
-            None => Some(self.others.get(&address)?.as_slice()),
+            Some(frame) => Some(frame),
+            None => self.others.get(&address),
         }
     }
 
-    /// Forgets the frames of this epoch, kind and thread with numbers up to this one. It takes no memory.
+    /// Forgets the frames of this epoch, kind and thread with numbers up to this one. It takes no memory, and where no
+    /// frame was sent as its bytes it is done with entries at once.
     pub fn forget(&mut self, epoch: u32, kind: Kind, thread: u32, up_to: u64)
         ensures forgotten { Forgets (IsUpTo (address epoch kind thread up_to)) self.old self.new }
     {
@@ -242,6 +292,9 @@ impl Links {
             thread,
             number: up_to,
         };
+        if kind == Kind::Log && !self.spelled {
+            return;
+        }
         forget_in_runs(&mut self.runs, &last);
         drop_up_to(&mut self.others, last);
     }

@@ -3,17 +3,18 @@ ghost use Rattle.std.specs.Prelude.{OnOk, OnErr, length, option_copied};
 ghost use Rattle.link_store.specs.Links.{frame_at, Sends, Forgets, IsUpTo, IsOfEpoch};
 ghost use Rattle.link_store.specs.Runs.{frames_of, later, Takes};
 
-use crate::Address;
-use plain_text::{Bytes, NoMemory};
+use crate::{Address, KeptFrame};
+use plain_text::NoMemory;
 use std::alloc::Global;
 use std::collections::VecDeque;
 use std::marker::Model;
+use std::mem;
 
 /// Frames of one epoch, kind and thread whose numbers follow one another.
 #[derive(Debug, Drop)]
 pub struct Run {
     first: Address,
-    frames: VecDeque<Bytes>,
+    frames: VecDeque<KeptFrame>,
 }
 
 impl Model for Run {
@@ -29,7 +30,7 @@ impl Model for Run {
 
 impl Run {
     /// One frame, at this address.
-    pub fn of(alloc: Global, at: Address, frame: Bytes) -> Result<Self, NoMemory>
+    pub fn of(alloc: Global, at: Address, frame: KeptFrame) -> Result<Self, NoMemory>
         ensures { IfOk result (λ run. run ≡ record { first = at; frames = frame ∷ [] }) }
     {
         let mut frames = VecDeque::new(alloc);
@@ -66,21 +67,21 @@ impl Run {
     }
 
     /// The frame at this address.
-    pub fn get(&self, at: &Address) -> Option<&Bytes>
+    pub fn get(&self, at: &Address) -> Option<&KeptFrame>
         ensures { option_copied result ≡ frame_at (frames_of self.now) at.now }
     {
         self.frames.get(self.index_of(at)? as usize)
     }
 
     /// Puts a frame at this address, in the place of the one before or as the next.
-    pub fn put(&mut self, at: &Address, frame: Bytes) -> Result<(), NoMemory>
+    pub fn put(&mut self, at: &Address, frame: KeptFrame) -> Result<(), NoMemory>
         requires { Takes self.old at.now }
         ensures ok { OnOk result (Sends (frames_of self.old) (frames_of self.new) at.now frame) }
         ensures err { OnErr result (self.new ≡ self.old) }
     {
         let place = (at.number - self.first.number) as usize;
         if place < self.frames.len() {
-            self.frames[place] = frame;
+            drop(mem::replace(&mut self.frames[place], frame));
         } else {
             self.frames.push_back(frame)?;
         }

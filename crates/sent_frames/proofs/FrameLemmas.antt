@@ -1,7 +1,7 @@
 -- Frames as they are sent, and what comes back.
 use Rattle.std.specs.Prelude.{slice_index, ◌^◌}
-use Rattle.std.proofs.Common.{◌≡◌, ℕ, ◌<◌, List, [], ◌∷◌, ◌++◌, length, refl, sym, ap, ◌∙◌, subst, Option, Some, Result}
-use Rattle.std.proofs.Common.{Err, arith}
+use Rattle.std.proofs.Common.{◌≡◌, ℕ, ◌<◌, List, [], ◌∷◌, ◌++◌, length, refl, sym, ap, ◌∙◌, subst, Option, Some}
+use Rattle.std.proofs.Common.{arith}
 use Rattle.std.specs.Prelude.{slice_set, slice_index_or}
 use Rattle.std.proofs.lemmas.List.{get_or_default}
 use Rattle.plain_text.specs.declared.kind.Kind.TheVariants.{Log, Out}
@@ -9,25 +9,15 @@ use Rattle.access_log.specs.declared.entry.StampedEntry.{StampedEntry}
 use Rattle.access_log.specs.declared.entry.Output.{Output}
 use Rattle.link_store.specs.declared.address.Address.{Address}
 use Rattle.link_store.specs.Links.{address, frame_at, Sends}
-use Rattle.wire_frames.specs.declared.frame.Frame.{Frame}
 use Rattle.wire_frames.specs.declared.frame.Frame.TheVariants as frame
-use Rattle.wire_frames.specs.declared.frame.FrameError.{FrameError}
-use Rattle.wire_frames.specs.declared.frame.FrameError.TheVariants as error
-use Rattle.wire_frames.specs.declared.frame.FrameFault.{FrameFault}
 use Rattle.wire_frames.specs.Layout.{IsFrame, written}
 use Rattle.wire_frames.specs.Parts.{FitsWord}
 use Rattle.wire_frames.proofs.Ranges.{is_sent, is_done}
 use Rattle.wire_frames.proofs.Whole.{is_written}
 use Rattle.wire_frames.specs.Writing.{CanPutEntry, CanPutOutput}
-use Rattle.wire_frames.specs.Faults.{Gives}
 use Rattle.sent_frames.specs.Sending.{Sending, HasEntryFrame, HasOutputFrame, SendsEntry, SendsOutput, SendsAgain}
 use Rattle.sent_frames.specs.Sending.{CountsEntry, entry_size, entry_address, output_address, lengths_of}
 use Rattle.sent_frames.specs.Spelled.{IsEntryFrame, IsOutputFrame}
-
--- a frame is not at fault
-pub gives_no_fault : (r : Result (Frame × ℕ) FrameError) (fault : FrameFault) (f : Frame) (size : ℕ)
-    → r ≡ Err (error.Fault fault) → Gives r f size → ⊥
-gives_no_fault r fault f size is gives = subst (λ (q : Result (Frame × ℕ) FrameError). Gives q f size) is gives
 
 -- the frame that is found is that of the entry, or of the output
 

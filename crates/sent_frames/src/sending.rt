@@ -3,12 +3,9 @@ ghost use Rattle.std.specs.Prelude.{length, replicate, slice_index};
 ghost use Rattle.wire_frames.specs.Parts.{FitsWord};
 ghost use Rattle.access_log.specs.declared.entry.StampedEntry.{StampedEntry};
 ghost use Rattle.access_log.specs.declared.entry.Output.{Output as OutputValue};
-ghost use Rattle.wire_frames.specs.declared.frame.Frame.{Frame as FrameValue};
 ghost use Rattle.plain_text.specs.declared.kind.Kind.TheVariants as kind_is;
 ghost use Rattle.link_store.specs.Links.{frame_at};
 ghost use Rattle.wire_frames.specs.Writing.{CanPutEntry, CanPutOutput};
-ghost use Rattle.wire_frames.specs.declared.frame.Frame.TheVariants as frame_is;
-ghost use Rattle.wire_frames.specs.Layout.{IsFrame};
 ghost use Rattle.sent_frames.specs.Sending.{IsUnsent, SendsEntry, SendsOutput, SendsAgain};
 ghost use Rattle.sent_frames.specs.Sending.{CountsEntry};
 ghost use Rattle.sent_frames.specs.Sending.{ForgetsEntries, ForgetsOutputs, BeginsEpoch, TurnsBack};
@@ -21,7 +18,7 @@ use link_store::Links;
 use plain_text::{Bytes, Kind, NoMemory, Sequence};
 use std::alloc::Global;
 use std::marker::Model;
-use wire_frames::{Frame, FrameError, entry_length, put_entry, put_output, take_frame};
+use wire_frames::{entry_length, output_length, put_entry};
 
 /// What a master sends on its links: each entry and each output as a frame, and how long each frame was.
 ///
@@ -68,54 +65,6 @@ fn no_lengths(alloc: Global, threads: u32) -> Result<Vec<Sequence<u32>>, NoMemor
         lengths.push(Sequence::new(alloc))?;
     }
     Ok(lengths)
-}
-
-/// The entry of a frame, if it is that of an entry. It answers that memory ran out where a component of the stamp is
-/// 2^32 or more, as in no frame that was sent.
-fn entry_of(frame: &Frame) -> Result<Option<StampedEntry>, NoMemory>
-    ensures { IfOk result (λ found. (epoch threads : ℕ) (e : StampedEntry)
-        → frame.now ≡ frame_is.Entry epoch threads e → found ≡ Some e) }
-{
-    match frame {
-        Frame::Entry { entry, .. } => match entry.entry() {
-            Some(entry) => Ok(Some(entry)),
-            None => Err(NoMemory),
-        },
-        Frame::Output { .. } => Ok(None),
-    }
-}
-
-/// The output of a frame, if it is that of an output. It answers that memory ran out as `entry_of` does.
-fn output_of(frame: Frame) -> Result<Option<Output>, NoMemory>
-    ensures { IfOk result (λ found. (epoch threads : ℕ) (o : OutputValue)
-        → frame ≡ frame_is.Output epoch threads o → found ≡ Some o) }
-{
-    match frame {
-        Frame::Output {
-            epoch: _,
-            threads: _,
-            output,
-        } => match output.into_output() {
-            Some(output) => Ok(Some(output)),
-            None => Err(NoMemory),
-        },
-        Frame::Entry {
-            epoch: _,
-            threads: _,
-            entry: _,
-        } => Ok(None),
-    }
-}
-
-/// The frame that these bytes are, if they are one.
-fn frame_in(alloc: Global, bytes: &[u8]) -> Result<Option<Frame>, NoMemory>
-    ensures { IfOk result (λ found. (f : FrameValue) → IsFrame bytes.now f → found ≡ Some f) }
-{
-    match take_frame(alloc, bytes) {
-        Ok((frame, _)) => Ok(Some(frame)),
-        Err(FrameError::Fault(_)) => Ok(None),
-        Err(FrameError::NoMemory) => Err(NoMemory),
-    }
 }
 
 /// The length of a thread's frame of this number, from 1.
@@ -231,17 +180,17 @@ impl SentFrames {
         Ok(())
     }
 
-    /// Sends an output as its thread's next frame, in the buffer of its packet. After `NoMemory` the links are of no
-    /// use any more.
+    /// Sends an output as its thread's next frame. It is kept as the output, and no frame is written. After `NoMemory`
+    /// the links are of no use any more.
     pub fn send_output(&mut self, output: Output) -> Result<(), NoMemory>
         requires can { CanPutOutput self.old.epoch self.old.threads output }
         ensures ok { OnOk result (SendsOutput self.old self.new output) }
         ensures there { output.thread < length self.old.outputs }
         ensures threads { self.new.threads ≡ self.old.threads }
     {
-        let (thread, number) = (output.thread, output.number);
-        let frame = put_output(self.alloc, self.epoch, self.threads, output)?;
-        self.send_output_frame(thread, number, frame)
+        let size = output_length(&output);
+        self.outputs[output.thread as usize].push(size as u32)?;
+        self.links.send_output(self.epoch, self.threads, output)
     }
 
     /// Sends an output of which the frame was made before. After `NoMemory` the links are of no use any more.
@@ -271,9 +220,7 @@ impl SentFrames {
         ensures threads { self.new.threads ≡ self.old.threads }
     {
         let copy = copy_output(self.alloc, output)?;
-        let frame = put_output(self.alloc, self.epoch, self.threads, copy)?;
-        self.links
-            .send(self.epoch, Kind::Out, output.thread, output.number, frame)
+        self.links.send_output(self.epoch, self.threads, copy)
     }
 
     /// The entry that was sent under this number, if its frame is not forgotten.
@@ -283,11 +230,8 @@ impl SentFrames {
         ensures forgotten { frame_at self.now.frames (entry_address self.now thread number) ≡ None
             → IfOk result (λ found. found ≡ None) }
     {
-        let Some(bytes) = self.links.fetch(self.epoch, Kind::Log, thread, number) else {
-            return Ok(None);
-        };
-        match frame_in(self.alloc, bytes)? {
-            Some(frame) => entry_of(&frame),
+        match self.links.fetch(self.epoch, Kind::Log, thread, number) {
+            Some(frame) => frame.entry(self.alloc),
             None => Ok(None),
         }
     }
@@ -299,11 +243,8 @@ impl SentFrames {
         ensures forgotten { frame_at self.now.frames (output_address self.now thread number) ≡ None
             → IfOk result (λ found. found ≡ None) }
     {
-        let Some(bytes) = self.links.fetch(self.epoch, Kind::Out, thread, number) else {
-            return Ok(None);
-        };
-        match frame_in(self.alloc, bytes)? {
-            Some(frame) => output_of(frame),
+        match self.links.fetch(self.epoch, Kind::Out, thread, number) {
+            Some(frame) => frame.output(self.alloc),
             None => Ok(None),
         }
     }

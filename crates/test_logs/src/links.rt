@@ -20,7 +20,8 @@ fn send(alloc: Global, links: &mut Links, under: Numbers, byte: u8) -> Result<()
 /// The byte of the frame under these numbers.
 fn byte_under(links: &Links, under: Numbers) -> Option<u8> {
     let (epoch, kind, thread, number) = under;
-    links.fetch(epoch, kind, thread, number)?.first().copied()
+    let frame = links.fetch(epoch, kind, thread, number)?;
+    frame.bytes()?.first().copied()
 }
 
 /// The bytes under the three numbers.

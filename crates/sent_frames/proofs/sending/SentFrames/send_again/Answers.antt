@@ -1,8 +1,10 @@
 use Rattle.std.proofs.Common.{sym, subst}
 use Rattle.std.proofs.lemmas.Result.{on_ok_weaker}
 use Rattle.access_log.specs.declared.entry.Output.{Output}
+use Rattle.plain_text.specs.declared.kind.Kind.TheVariants.{Out}
+use Rattle.link_store.specs.Links.{address, Sends}
 use Rattle.wire_frames.specs.declared.frame.Frame.TheVariants as frame
-use Rattle.wire_frames.specs.Layout.{IsFrame}
+use Rattle.wire_frames.specs.Layout.{written, IsFrame}
 use Rattle.wire_frames.specs.Writing.{CanPutOutput}
 use Rattle.sent_frames.specs.Sending.{Sending}
 use Rattle.sent_frames.proofs.FrameLemmas.{sends_again}
@@ -10,12 +12,15 @@ use Rattle.sent_frames.proofs.sending.SentFrames.send_again.Goals as goal
 
 pub returns-clause-ok : goal.returns-clause-ok
 returns-clause-ok c =
-    on_ok_weaker c.send.result
+    let s = c.self.inside in
+    let o = c.args.output.now in
+    let frame_of = λ (p : Output). frame.Output s.epoch s.threads p in
+    on_ok_weaker c.send_output.result
     (λ sends.
-    let frame_of =
-    subst (λ (o : Output). IsFrame c.in_ok-frame.frame (frame.Output c.self.inside.epoch c.self.inside.threads o))
-    c.in_ok-copy.ensures c.in_ok-frame.ensures.frame in
-    let can =
-    subst (λ (q : Sending). CanPutOutput q.epoch q.threads c.args.output.now) (sym c.self.view_is) c.requires.can in
-    sends_again _ _ c.send.new.self c.args.output.now c.in_ok-frame.frame c.self.view_is can frame_of sends)
-    c.send.ensures.ok
+    let at = subst (λ (p : Output). Sends s.links c.send_output.new.self (address s.epoch Out p.thread p.number)
+    (written (frame_of p))) c.in_ok-copy.ensures sends in
+    let is = subst (λ (p : Output). IsFrame (written (frame_of p)) (frame_of p)) c.in_ok-copy.ensures
+    c.send_output.ensures.frame in
+    let can = subst (λ (q : Sending). CanPutOutput q.epoch q.threads o) (sym c.self.view_is) c.requires.can in
+    sends_again _ _ c.send_output.new.self o (written (frame_of o)) c.self.view_is can is at)
+    c.send_output.ensures.ok

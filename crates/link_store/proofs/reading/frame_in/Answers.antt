@@ -1,7 +1,7 @@
 use Rattle.std.proofs.Common.{Some, Err, length, ap, ◌∙◌}
 use Rattle.wire_frames.proofs.Whole.{begins_whole}
-use Rattle.sent_frames.proofs.FrameLemmas.{gives_no_fault}
-use Rattle.sent_frames.proofs.sending.frame_in.Goals as goal
+use Rattle.link_store.proofs.KeptLemmas.{gives_no_fault}
+use Rattle.link_store.proofs.reading.frame_in.Goals as goal
 
 pub returns-in-Ok : goal.returns-in-Ok
 returns-in-Ok c f is =
