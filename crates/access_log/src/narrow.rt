@@ -5,7 +5,13 @@ ghost use Rattle.access_log.specs.Narrow.{padded, FitsIn};
 
 use crate::{StampedEntry, What};
 use std::marker::Model;
+use std::mem::size_of;
 use thread_clock::Stamp;
+
+// With room for one component a slot takes 32 bytes, and with room for eight 64.
+const _: () = prove!(size_of::<NarrowSlot<1>>() == 32);
+
+const _: () = prove!(size_of::<NarrowSlot<8>>() == 64);
 
 /// A slot with room for the first `N` components of its entry's stamp, of which the others are 0. It is empty where the
 /// number is 0. Contracts see its entry, if there is one.

@@ -1,6 +1,7 @@
 //! Rows of slots. While all stamps have but a few components that are not 0, a slot has room for no more.
 ghost use Rattle.std.specs.Prelude.{◌≡◌, ◌≢◌, ℕ, ◌<◌, ◌≤◌, ◌++◌, ◌∷◌, [], Some, None, Ok, IfOk};
-ghost use Rattle.std.specs.Prelude.{true, is_ok, length, drop, slice_index_or, slice_set, if◌then◌else◌};
+ghost use Rattle.std.specs.Prelude.{true, is_ok, length, drop, slice_index_or, slice_set};
+ghost use Rattle.std.specs.Prelude.{if◌then◌else◌};
 ghost use Rattle.std.specs.VecDeque.{deque_len};
 ghost use Rattle.access_log.specs.Rows.{row_slots};
 
@@ -15,8 +16,12 @@ use std::collections::VecDeque;
 pub enum Row {
     /// The stamps are 0 but for the component of thread 0.
     One(VecDeque<NarrowSlot<1>>),
+    /// The stamps are 0 but for the components of threads 0 and 1.
+    Two(VecDeque<NarrowSlot<2>>),
     /// The stamps are 0 but for the components of threads 0 to 3.
     Four(VecDeque<NarrowSlot<4>>),
+    /// The stamps are 0 but for the components of threads 0 to 7.
+    Eight(VecDeque<NarrowSlot<8>>),
     /// There is room for all components.
     Full(VecDeque<Option<StampedEntry>>),
 }
@@ -72,7 +77,9 @@ impl Row {
     {
         match threads {
             0 | 1 => Row::One(VecDeque::new(alloc)),
-            2..=4 => Row::Four(VecDeque::new(alloc)),
+            2 => Row::Two(VecDeque::new(alloc)),
+            3 | 4 => Row::Four(VecDeque::new(alloc)),
+            5..=8 => Row::Eight(VecDeque::new(alloc)),
             _ => Row::Full(VecDeque::new(alloc)),
         }
     }
@@ -83,7 +90,9 @@ impl Row {
     {
         match self {
             Row::One(slots) => slots.len(),
+            Row::Two(slots) => slots.len(),
             Row::Four(slots) => slots.len(),
+            Row::Eight(slots) => slots.len(),
             Row::Full(slots) => slots.len(),
         }
     }
@@ -95,7 +104,9 @@ impl Row {
     {
         match self {
             Row::One(slots) => slots[i].entry(),
+            Row::Two(slots) => slots[i].entry(),
             Row::Four(slots) => slots[i].entry(),
+            Row::Eight(slots) => slots[i].entry(),
             Row::Full(slots) => slots[i],
         }
     }
@@ -107,7 +118,9 @@ impl Row {
     {
         match self {
             Row::One(slots) => slots[i] = NarrowSlot::empty(),
+            Row::Two(slots) => slots[i] = NarrowSlot::empty(),
             Row::Four(slots) => slots[i] = NarrowSlot::empty(),
+            Row::Eight(slots) => slots[i] = NarrowSlot::empty(),
             Row::Full(slots) => slots[i] = None,
         }
     }
@@ -119,7 +132,9 @@ impl Row {
     {
         match self {
             Row::One(slots) => drop_front(slots, count),
+            Row::Two(slots) => drop_front(slots, count),
             Row::Four(slots) => drop_front(slots, count),
+            Row::Eight(slots) => drop_front(slots, count),
             Row::Full(slots) => drop_front(slots, count),
         }
     }
@@ -128,7 +143,9 @@ impl Row {
     fn allocator(&self) -> Global {
         match self {
             Row::One(slots) => *slots.allocator(),
+            Row::Two(slots) => *slots.allocator(),
             Row::Four(slots) => *slots.allocator(),
+            Row::Eight(slots) => *slots.allocator(),
             Row::Full(slots) => *slots.allocator(),
         }
     }
@@ -152,7 +169,9 @@ impl Row {
     {
         match self {
             Row::One(slots) => push_narrow(slots, entry),
+            Row::Two(slots) => push_narrow(slots, entry),
             Row::Four(slots) => push_narrow(slots, entry),
+            Row::Eight(slots) => push_narrow(slots, entry),
             Row::Full(slots) => {
                 slots.push_back(Some(*entry))?;
                 Ok(true)
@@ -169,7 +188,9 @@ impl Row {
     {
         match self {
             Row::One(slots) => set_narrow(slots, i, entry),
+            Row::Two(slots) => set_narrow(slots, i, entry),
             Row::Four(slots) => set_narrow(slots, i, entry),
+            Row::Eight(slots) => set_narrow(slots, i, entry),
             Row::Full(slots) => {
                 slots[i] = Some(*entry);
                 true

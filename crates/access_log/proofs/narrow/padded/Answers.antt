@@ -1,4 +1,4 @@
-use Rattle.std.proofs.Common.{arith, sym, ◌∙◌, ◌≡◌, ◌≤◌, length, ⊎_elim}
+use Rattle.std.proofs.Common.{arith, sym, ◌∙◌, ◌≤◌, length, ⊎_elim}
 use Rattle.std.proofs.lemmas.Bool.{cases_lt}
 use Rattle.std.proofs.lemmas.List.{get_or_past}
 use Rattle.access_log.proofs.NarrowLemmas.{is_padded}

@@ -1,4 +1,4 @@
-use Rattle.std.proofs.Common.{arith, ◌∙◌, ◌≡◌, ◌<◌, ◌≢◌, ◌↔◌, Some, None, slice_index_or, below_more}
+use Rattle.std.proofs.Common.{arith, ◌∙◌, ◌≡◌, ◌≢◌, ◌↔◌, Some, None, slice_index_or, below_more}
 use Rattle.access_log.proofs.slots.empty_above.Goals as goal
 use Rattle.thread_clock.specs.Clock.{AtMost}
 use Rattle.access_log.specs.declared.entry.StampedEntry.{StampedEntry}

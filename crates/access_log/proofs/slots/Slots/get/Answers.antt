@@ -1,4 +1,4 @@
-use Rattle.std.proofs.Common.{arith, sym, ◌∙◌, ◌≡◌, ℕ, ◌+◌, ◌-◌, ◌≤◌, ◌<◌, None, length}
+use Rattle.std.proofs.Common.{arith, sym, ◌∙◌, ◌≡◌, ℕ, ◌+◌, ◌-◌, ◌≤◌, ◌<◌, length}
 use Rattle.access_log.proofs.slots.Slots.get.Goals as goal
 use Rattle.access_log.proofs.SlotLemmas.{at-outside, at-inside, no_later}
 use Rattle.access_log.proofs.slots.Slots.get.Goals.{then-number-self-via-then-number-self}
@@ -14,8 +14,9 @@ returns-then-number-self c =
       | then-number-self-via-else-number-self+then-number-self-2 w ↦
           omega (arith, w.if-number-self-2.true, w.len.ensures)
     ] in
-    rw (← c.self.view_is)
-    (c.copied.ensures ∙ c.get.ensures.value ∙ sym (at-outside s.covered (row_slots s.contiguous) s.out_of_order.entries c.args.number outside))
+    rw (← c.self.view_is) (c.copied.ensures
+    ∙ c.get.ensures.value
+    ∙ sym (at-outside s.covered (row_slots s.contiguous) s.out_of_order.entries c.args.number outside))
 
 pub returns : goal.returns
 returns c =

@@ -12,8 +12,8 @@ returns-then-place-slots-clause-ok c =
     let above : s.covered < c.args.number = rw (← c.self.view_is) at c.requires.past in
     let within : i < length (row_slots s.contiguous) = omega (arith, c.if-place-slots.true, c.len-slots.ensures) in
     let free = rw (← c.self.view_is) at c.requires.free in
-    rw (← c.self.view_is, c.in_ok-set.ensures.items) (PutsEntry-slot s.covered (row_slots s.contiguous) s.out_of_order.entries c.args.number i
-    c.args.entry c.self.invariant (omega arith) within free)
+    rw (← c.self.view_is, c.in_ok-set.ensures.items) (PutsEntry-slot s.covered (row_slots s.contiguous)
+    s.out_of_order.entries c.args.number i c.args.entry c.self.invariant (omega arith) within free)
 
 pub gather-requires : goal.gather-requires
 gather-requires c =
@@ -58,6 +58,6 @@ returns-clause-ok c =
     let ok = c.in_ok-insert.ensures in
     let old : c.in_ok-insert.field-0 ≡ None = c.in_ok-insert.ensures.old ∙ none in
     let counted = rw old at c.in_ok-insert.ensures.len in
-    rw (← c.self.view_is)
-    (PutsEntry-out_of_order s.covered (row_slots s.contiguous) s.out_of_order.entries c.insert.new.self.entries c.args.number
-    c.args.entry c.self.invariant past c.in_ok-insert.ensures.updates.1 c.in_ok-insert.ensures.updates.2 counted)
+    rw (← c.self.view_is) (PutsEntry-out_of_order s.covered (row_slots s.contiguous) s.out_of_order.entries
+    c.insert.new.self.entries c.args.number c.args.entry c.self.invariant past c.in_ok-insert.ensures.updates.1
+    c.in_ok-insert.ensures.updates.2 counted)

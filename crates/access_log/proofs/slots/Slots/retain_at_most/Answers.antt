@@ -9,8 +9,8 @@ returns-clause-retained c =
     let s = c.self.inside in
     rw (← c.self.view_is) (record {
       covered = refl;
-      held = at-retained s.covered (row_slots s.contiguous) (row_slots c.empty_above.new.contiguous) s.out_of_order.entries
-          c.retain.new.self.entries c.args.frontiers.now c.self.invariant c.empty_above.ensures
+      held = at-retained s.covered (row_slots s.contiguous) (row_slots c.empty_above.new.contiguous)
+          s.out_of_order.entries c.retain.new.self.entries c.args.frontiers.now c.self.invariant c.empty_above.ensures
           (retained _ (λ v. v.stamp) c.args.frontiers.now _ (λ k v b w f' t. search rules) _ _
           c.retain.ensures.was_ordered c.retain.ensures.filtered);
     })
