@@ -1,7 +1,7 @@
 -- Frontiers and lanes that are fresh.
 use Rattle.std.proofs.Common.{◌≡◌, ℕ, zero, suc, ◌+◌, ◌≤◌, ◌<◌, List, [], ◌∷◌, Option, Some, None, IfSome, replicate}
-use Rattle.std.proofs.Common.{length, option_copied, slice_index, slice_set, ◌≢◌, ◌↔◌, refl, sym, inl, inr, ⊎_elim}
-use Rattle.std.proofs.Common.{arith, Bor}
+use Rattle.std.proofs.Common.{length, slice_index, slice_set, ◌≢◌, ◌↔◌, refl, sym, inl, inr, ⊎_elim}
+use Rattle.std.proofs.Common.{arith}
 use Rattle.access_log.specs.declared.entry.StampedEntry.{StampedEntry}
 use Rattle.access_log.specs.Held.{Lane, lane, fresh_lane, entry_at, IsKnown, IsFrontier, IsWithin, IsRising, held_count}
 use Rattle.access_log.specs.Lanes.{RetainsAtMost, IsHeldSet}
@@ -94,7 +94,7 @@ IsHeldSet-retained old new frontiers is kept same rising = record {
   rising = rising_all new (λ t h. rising t (omega arith));
 }
 
-pub entry_named : (held : List Lane) (t n : ℕ) (o : Option (Bor StampedEntry)) → IsHeldSet held
-    → option_copied o ≡ entry_at (lane held t) n → IfSome o (λ e. (e.now.thread ≡ t) × (e.now.number ≡ n))
+pub entry_named : (held : List Lane) (t n : ℕ) (o : Option StampedEntry) → IsHeldSet held
+    → o ≡ entry_at (lane held t) n → IfSome o (λ e. (e.thread ≡ t) × (e.number ≡ n))
 entry_named held t n None is h = tt
-entry_named held t n (Some e) is h = is.named t n e.now (sym h)
+entry_named held t n (Some e) is h = is.named t n e (sym h)

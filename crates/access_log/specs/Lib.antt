@@ -1,4 +1,6 @@
 pub mod Held
 pub mod Lanes
 pub mod Members
+pub mod Narrow
+pub mod Rows
 pub mod Slots

@@ -1,6 +1,6 @@
 ghost use Rattle.std.specs.Prelude.{◌≡◌, ℕ, ◌+◌, ◌-◌, ◌^◌, ◌<◌, ◌≤◌, ◌↔◌, ◌≢◌, List, Option, Some};
 ghost use Rattle.std.specs.Prelude.{None, Ok, IsSome, IfOk, IfSome, MatchOption, length};
-ghost use Rattle.std.specs.Prelude.{option_copied, replicate, slice_index};
+ghost use Rattle.std.specs.Prelude.{replicate, slice_index};
 ghost use Rattle.access_log.specs.Held.{lane, entry_at, fresh_lane, IsKnown, IsFrontier, IsWithin};
 ghost use Rattle.access_log.specs.Held.{IsFirstMissing, IsRising, held_count};
 ghost use Rattle.access_log.specs.Lanes.{PutsEntry, CoversUpTo, RetainsAtMost, IsHeldSet};
@@ -96,7 +96,7 @@ impl Held {
     {
         let mut lanes = Vec::with_capacity(alloc, threads as usize)?;
         for _ in 0..threads {
-            lanes.push(Lane::new(alloc))?;
+            lanes.push(Lane::new(alloc, threads))?;
         }
         Ok(Held { lanes })
     }
@@ -128,9 +128,9 @@ impl Held {
     }
 
     /// The held entry of this thread and number, if there is one; a covered one is not held.
-    pub fn get(&self, thread: u32, number: u64) -> Option<&StampedEntry>
-        ensures value { option_copied result ≡ entry_at (lane self.now thread) number }
-        ensures named { IfSome result (λ e. (e.now.thread ≡ thread) × (e.now.number ≡ number)) }
+    pub fn get(&self, thread: u32, number: u64) -> Option<StampedEntry>
+        ensures value { result ≡ entry_at (lane self.now thread) number }
+        ensures named { IfSome result (λ e. (e.thread ≡ thread) × (e.number ≡ number)) }
         ensures above { IsSome result → (lane self.now thread).covered < number }
     {
         self.lanes.get(thread as usize)?.get(number)

@@ -1,5 +1,5 @@
 ghost use Rattle.std.specs.Prelude.{◌≡◌, ℕ, ◌+◌, ◌-◌, ◌^◌, ◌<◌, ◌≤◌, ◌↔◌, ◌≢◌, List, Option, Some};
-ghost use Rattle.std.specs.Prelude.{None, Ok, IsSome, length, option_copied, nat_le, if◌then◌else◌};
+ghost use Rattle.std.specs.Prelude.{None, Ok, IsSome, length, nat_le, if◌then◌else◌};
 ghost use Rattle.std.specs.Prelude.{slice_index};
 ghost use Rattle.thread_clock.specs.Clock.{AtMost};
 ghost use Rattle.access_log.specs.Held.{entry_at, fresh_lane, IsKnown, IsFrontier, IsRising};
@@ -47,13 +47,13 @@ fn frontier_after(entries: &Slots, from: u64) -> u64
 }
 
 impl Lane {
-    /// Nothing covered and nothing held. It takes no memory.
-    pub fn new(alloc: Global) -> Self
+    /// Nothing covered and nothing held, of so many threads. It takes no memory.
+    pub fn new(alloc: Global, threads: u32) -> Self
         ensures { result ≡ fresh_lane }
     {
         Lane {
             frontier: 0,
-            entries: Slots::new(alloc),
+            entries: Slots::new(alloc, threads),
         }
     }
 
@@ -65,8 +65,8 @@ impl Lane {
     }
 
     /// The held entry of this number.
-    pub fn get(&self, number: u64) -> Option<&StampedEntry>
-        ensures value { option_copied result ≡ entry_at self.now number }
+    pub fn get(&self, number: u64) -> Option<StampedEntry>
+        ensures value { result ≡ entry_at self.now number }
         ensures above { IsSome result → self.now.covered < number }
     {
         let _numbers = self.entries.covered();

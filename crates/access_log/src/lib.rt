@@ -5,6 +5,8 @@ mod entry;
 mod held;
 mod lane;
 mod laws;
+mod narrow;
+mod row;
 mod slots;
 
 pub use entry::{Added, Output, Outputs, StampedEntry, Turn, copy_output};

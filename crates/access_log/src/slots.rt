@@ -1,18 +1,20 @@
-ghost use Rattle.std.specs.Prelude.{◌≡◌, ℕ, ◌+◌, ◌-◌, ◌^◌, ◌<◌, ◌≤◌, ◌↔◌, ◌++◌, List, Option, Some};
-ghost use Rattle.std.specs.Prelude.{None, IsSome, OnOk, OnErr, length, option_copied};
+ghost use Rattle.std.specs.Prelude.{◌≡◌, ℕ, ◌+◌, ◌-◌, ◌^◌, ◌<◌, ◌≤◌, ◌↔◌, ◌≢◌, ◌++◌, List, Option};
+ghost use Rattle.std.specs.Prelude.{Some};
+ghost use Rattle.std.specs.Prelude.{None, IsSome, OnOk, OnErr, length};
 ghost use Rattle.std.specs.Prelude.{option_to_list, drop, slice_index_or, nat_le, if◌then◌else◌};
 ghost use Rattle.std.specs.BTreeMap.{get, btree_map_len};
-ghost use Rattle.std.specs.VecDeque.{deque_len};
 ghost use Rattle.std.specs.Ordering.{nat_cmp};
 ghost use Rattle.thread_clock.specs.Clock.{AtMost};
 ghost use Rattle.access_log.specs.Held.{entry_at, fresh_lane, IsRising};
 ghost use Rattle.access_log.specs.Lanes.{PutsEntry, CoversUpTo, RetainsAtMost};
+ghost use Rattle.access_log.specs.Rows.{row_slots};
 ghost use Rattle.access_log.specs.Slots.{in_slots, IsSlotted, RetainsSlots};
 
 use crate::StampedEntry;
+use crate::row::Row;
 use plain_text::NoMemory;
 use std::alloc::Global;
-use std::collections::{BTreeMap, VecDeque};
+use std::collections::BTreeMap;
 use std::marker::Model;
 use std::mem::size_of;
 use thread_clock::EntryCounts;
@@ -28,7 +30,7 @@ const _: () = prove!(size_of::<Option<StampedEntry>>() <= 112);
 #[derive(Debug, Drop)]
 pub struct Slots {
     covered: u64,
-    contiguous: VecDeque<Option<StampedEntry>>,
+    contiguous: Row,
     out_of_order: BTreeMap<u64, StampedEntry>,
 }
 
@@ -38,14 +40,15 @@ impl Model for Slots {
 
     ghost Value = { Lane };
 
+    ghost use Rattle.access_log.specs.Rows.{row_slots};
     ghost use Rattle.access_log.specs.Slots.{in_slots, IsSlotted};
 
     ghost view = { λ s. record {
       covered = s.covered;
-      entries = in_slots s.covered s.contiguous.items ++ s.out_of_order.entries;
+      entries = in_slots s.covered (row_slots s.contiguous) ++ s.out_of_order.entries;
     } };
 
-    ghost invariant = { λ s. IsSlotted s.covered s.contiguous.items s.out_of_order.entries };
+    ghost invariant = { λ s. IsSlotted s.covered (row_slots s.contiguous) s.out_of_order.entries };
 }
 
 /// Drops the entries up to this number.
@@ -62,31 +65,15 @@ fn drop_out_of_order_up_to(out_of_order: &mut BTreeMap<u64, StampedEntry>, count
     }
 }
 
-/// Drops the first slots.
-fn drop_first(contiguous: &mut VecDeque<Option<StampedEntry>>, count: usize)
-    requires { count ≤ deque_len contiguous.old }
-    ensures { contiguous.new.items ≡ drop count contiguous.old.items }
-{
-    for _ in 0..count {
-        contiguous.pop_front();
-    }
-}
-
 /// Moves the later entries that follow the slots into new slots, as far as memory is there.
-fn gather(
-    covered: u64,
-    contiguous: &mut VecDeque<Option<StampedEntry>>,
-    out_of_order: &mut BTreeMap<u64, StampedEntry>,
-)
-    requires { IsSlotted covered contiguous.old.items out_of_order.old.entries }
-    ensures slotted { IsSlotted covered contiguous.new.items out_of_order.new.entries }
-    ensures same { in_slots covered contiguous.new.items ++ out_of_order.new.entries
-        ≡ in_slots covered contiguous.old.items ++ out_of_order.old.entries }
+fn gather(covered: u64, contiguous: &mut Row, out_of_order: &mut BTreeMap<u64, StampedEntry>)
+    requires { IsSlotted covered (row_slots contiguous.old) out_of_order.old.entries }
+    ensures slotted { IsSlotted covered (row_slots contiguous.new) out_of_order.new.entries }
+    ensures same { in_slots covered (row_slots contiguous.new) ++ out_of_order.new.entries
+        ≡ in_slots covered (row_slots contiguous.old) ++ out_of_order.old.entries }
 {
     while let Some((number, entry)) = out_of_order.first_key_value() {
-        if *number - 1 != covered + contiguous.len() as u64
-            || contiguous.push_back(Some(*entry)).is_err()
-        {
+        if *number - 1 != covered + contiguous.len() as u64 || contiguous.push(entry).is_err() {
             break;
         }
         out_of_order.pop_first();
@@ -94,23 +81,28 @@ fn gather(
 }
 
 /// Empties the slot if its entry has a component of its stamp above its thread's frontier.
-fn empty_if_above(slot: &mut Option<StampedEntry>, frontiers: &EntryCounts)
-    ensures { (e : StampedEntry) → (slot.new ≡ Some e) ↔ ((slot.old ≡ Some e)
+fn empty_if_above(contiguous: &mut Row, i: usize, frontiers: &EntryCounts)
+    requires { i < length (row_slots contiguous.old) }
+    ensures slots { length (row_slots contiguous.new) ≡ length (row_slots contiguous.old) }
+    ensures held { (e : StampedEntry) → (slice_index_or (row_slots contiguous.new) i None ≡ Some e)
+        ↔ ((slice_index_or (row_slots contiguous.old) i None ≡ Some e)
         × AtMost e.stamp frontiers.now) }
+    ensures others { (k : ℕ) → k ≢ i → slice_index_or (row_slots contiguous.new) k None
+        ≡ slice_index_or (row_slots contiguous.old) k None }
 {
-    if let Some(entry) = slot
+    if let Some(entry) = contiguous.get(i)
         && !entry.stamp.at_most(frontiers)
     {
-        *slot = None;
+        contiguous.clear(i);
     }
 }
 
 /// Empties each slot whose entry has a component of its stamp above its thread's frontier.
-fn empty_above(contiguous: &mut VecDeque<Option<StampedEntry>>, frontiers: &EntryCounts)
-    ensures { RetainsSlots contiguous.old.items contiguous.new.items frontiers.now }
+fn empty_above(contiguous: &mut Row, frontiers: &EntryCounts)
+    ensures { RetainsSlots (row_slots contiguous.old) (row_slots contiguous.new) frontiers.now }
 {
     for i in 0..contiguous.len() {
-        empty_if_above(&mut contiguous[i], frontiers);
+        empty_if_above(contiguous, i, frontiers);
     }
 }
 
@@ -126,24 +118,24 @@ fn count_in(slot: &Option<StampedEntry>) -> usize
 }
 
 /// How many slots are not empty.
-fn count_full(contiguous: &VecDeque<Option<StampedEntry>>) -> usize
-    ensures { (from : ℕ) → result ≡ length (in_slots from contiguous.now.items) }
+fn count_full(contiguous: &Row) -> usize
+    ensures { (from : ℕ) → result ≡ length (in_slots from (row_slots contiguous.now)) }
 {
     let mut count = 0;
     for i in 0..contiguous.len() {
-        count += count_in(&contiguous[i]);
+        count += count_in(&contiguous.get(i));
     }
     count
 }
 
 impl Slots {
-    /// Nothing covered and nothing held. It takes no memory.
-    pub fn new(alloc: Global) -> Self
+    /// Nothing covered and nothing held, of so many threads. It takes no memory.
+    pub fn new(alloc: Global, threads: u32) -> Self
         ensures { result ≡ fresh_lane }
     {
         Slots {
             covered: 0,
-            contiguous: VecDeque::new(alloc),
+            contiguous: Row::new(alloc, threads),
             out_of_order: BTreeMap::new(alloc),
         }
     }
@@ -160,13 +152,13 @@ impl Slots {
     }
 
     /// The held entry of this number.
-    pub fn get(&self, number: u64) -> Option<&StampedEntry>
-        ensures { option_copied result ≡ entry_at self.now number }
+    pub fn get(&self, number: u64) -> Option<StampedEntry>
+        ensures { result ≡ entry_at self.now number }
     {
         if number <= self.covered || number - self.covered > self.contiguous.len() as u64 {
-            return self.out_of_order.get(&number);
+            return self.out_of_order.get(&number).copied();
         }
-        self.contiguous[(number - self.covered - 1) as usize].as_ref()
+        self.contiguous.get((number - self.covered - 1) as usize)
     }
 
     /// How many entries are held.
@@ -187,14 +179,14 @@ impl Slots {
         let place = number - self.covered - 1;
         let slots = self.contiguous.len() as u64;
         if place < slots {
-            self.contiguous[place as usize] = Some(entry);
+            self.contiguous.set(place as usize, &entry)?;
             return Ok(());
         }
         if self.contiguous.len() >= LIMIT - self.out_of_order.len() {
             return Err(NoMemory);
         }
         if place == slots {
-            self.contiguous.push_back(Some(entry))?;
+            self.contiguous.push(&entry)?;
             gather(self.covered, &mut self.contiguous, &mut self.out_of_order);
             return Ok(());
         }
@@ -208,10 +200,8 @@ impl Slots {
         ensures { CoversUpTo self.old self.new count }
     {
         let slots = self.contiguous.len() as u64;
-        drop_first(
-            &mut self.contiguous,
-            slots.min(count - self.covered) as usize,
-        );
+        self.contiguous
+            .drop_first(slots.min(count - self.covered) as usize);
         drop_out_of_order_up_to(&mut self.out_of_order, count);
         self.covered = count;
     }

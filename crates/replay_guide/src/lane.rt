@@ -63,8 +63,8 @@ impl FollowedLane {
             if entries.len() >= LIMIT {
                 return Err(NoMemory);
             }
-            index.add(entry)?;
-            entries.push_front(*entry)?;
+            index.add(&entry)?;
+            entries.push_front(entry)?;
             number -= 1;
         }
         Ok(FollowedLane {

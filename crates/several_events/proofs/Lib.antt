@@ -5,4 +5,6 @@ pub mod Following
 pub mod IdleTurns
 pub mod SameSets
 pub mod ToArrive
+pub mod AheadWorlds
+pub mod FirstMessages
 pub mod Ahead
