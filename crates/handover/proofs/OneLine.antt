@@ -7,7 +7,7 @@ use Rattle.std.specs.List.{list_all}
 use Rattle.std.specs.Str.{bytes_eq}
 use Rattle.plain_text.specs.declared.fault.LineCause.{LineCause}
 use Rattle.plain_text.specs.declared.fault.LineCause.TheVariants.{UnknownWord, OutOfRange}
-use Rattle.plain_text.specs.Grammar.{Row, row_named, PlacesSay, form_fault, range_fault, fit_fault, numbers_fault}
+use Rattle.plain_text.specs.Grammar.{Row, row_named, PlacesSay, form_fault, fit_fault, numbers_fault}
 use Rattle.plain_text.specs.Grammar.{row_fault, or_else}
 use Rattle.plain_text.proofs.Rows.{says_no_fault, one_reading, or_none}
 use Rattle.line_tables.specs.Parts.{values_at}

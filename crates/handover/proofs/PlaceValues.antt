@@ -1,5 +1,5 @@
 -- The values of words at places, as the reader finds them, are those that a table says of them; and their ranges.
-use Rattle.std.proofs.Common.{◌≡◌, ℕ, ◌+◌, ◌-◌, ◌^◌, ◌<◌, arith, List, [], ◌∷◌, length, take, refl, sym, ap, ◌∙◌, subst}
+use Rattle.std.proofs.Common.{◌≡◌, ℕ, ◌+◌, ◌-◌, ◌^◌, ◌<◌, arith, List, [], ◌∷◌, length, take, refl, ap, ◌∙◌, subst}
 use Rattle.std.proofs.Common.{Option, Some, None, true, false, Bool, cond, Ok, Err}
 use Rattle.std.specs.Prelude.{Result, codes, option_map, map, nat_lt, nat_le, ◌&&◌}
 use Rattle.std.specs.Str.{bytes_eq}
@@ -9,7 +9,7 @@ use Rattle.std.specs.List.{list_all}
 use Rattle.std.proofs.lemmas.Bool.Decides.{nat_tests}
 use Rattle.plain_text.specs.declared.fault.LineCause.{LineCause}
 use Rattle.plain_text.specs.declared.fault.LineCause.TheVariants.{OutOfRange}
-use Rattle.plain_text.specs.Grammar.{Place, value_at, index_in, is_within, PlacesSay, range_at, range_fault, form_at}
+use Rattle.plain_text.specs.Grammar.{value_at, index_in, is_within, PlacesSay, range_at, range_fault, form_at}
 use Rattle.plain_text.specs.Grammar.{form_fault}
 use Rattle.plain_text.specs.Lines.{is_number, number_of}
 use Rattle.line_tables.specs.Parts.{value_or_misfit, and_values, values_at}

@@ -1,14 +1,13 @@
 -- What was written is read back: the text of an image is that image's.
-use Rattle.std.proofs.Common.{◌≡◌, ℕ, ◌-◌, ◌^◌, ◌<◌, ◌==◌, arith, List, [], ◌∷◌, ◌++◌, length, refl, sym, ap, ◌∙◌}
+use Rattle.std.proofs.Common.{◌≡◌, ℕ, ◌^◌, ◌<◌, arith, List, [], ◌∷◌, ◌++◌, refl, sym, ap}
 use Rattle.std.proofs.Common.{subst}
-use Rattle.std.proofs.Common.{Option, Some, None, Bool, true, false, append_assoc, append-nil}
+use Rattle.std.proofs.Common.{Option, Some, None, true, append-nil}
 use Rattle.std.specs.Prelude.{All, codes, decimal, map}
-use Rattle.std.specs.List.{flat_map}
 use Rattle.std.proofs.lemmas.List.Elements.{All-head, All-tail}
 use Rattle.plain_text.specs.Grammar.{PlacesSay}
 use Rattle.plain_text.specs.LineFiles.{LineForm, text_of}
 use Rattle.plain_text.specs.LineFiles as plain
-use Rattle.plain_text.specs.Lines.{counted_lines, words_count, words_of}
+use Rattle.plain_text.specs.Lines.{counted_lines, words_count}
 use Rattle.plain_text.proofs.WrittenFiles as written
 use Rattle.plain_text.proofs.WrittenFiles.{IsSpelled}
 use Rattle.plain_text.proofs.WrittenWords.{spaced, AreWords, above_test, decimal_word, decimal_number}
@@ -27,7 +26,6 @@ use Rattle.handover.specs.declared.values.Part.TheVariants.{Narrow, Wide}
 use Rattle.handover.specs.Images.{image_form, SaysAt, IsImage, lines_of, numbered, line_text, image_text, FitsLine}
 use Rattle.handover.specs.Images.{FitsImage, lists_of, released_line}
 use Rattle.handover.specs.Table.{behind, is_whole, parts_of, place_of}
-use Rattle.handover.specs.Values.{form_of, values_of}
 use Rattle.handover.proofs.OneLine.{may_stand, kind_of}
 use Rattle.handover.proofs.PlaceValues.{wide_within, within_32}
 
@@ -92,19 +90,35 @@ are_words line.Heading fits =
     ((refl, above_test 32 (codes "handover") refl), ((refl, above_test 32 (codes "1") refl), tt))
 are_words (line.State fed clock draws epoch moves bytes) fits = (
   (refl, above_test 32 (codes "state") refl),
-  (decimal_word fed fits.0,
-  (decimal_word clock fits.1,
-  (decimal_word draws fits.2,
-  (decimal_word epoch (small epoch fits.3),
-  (decimal_word moves fits.4,
-  (decimal_word bytes fits.5, tt)))))),
+  (
+    decimal_word fed fits.0,
+    (
+      decimal_word clock fits.1,
+      (
+        decimal_word draws fits.2,
+        (
+          decimal_word epoch (small epoch fits.3),
+          (
+            decimal_word moves fits.4,
+            (decimal_word bytes fits.5, tt),
+          ),
+        ),
+      ),
+    ),
+  ),
 )
 are_words (line.Ended ended) fits = (
   (refl, above_test 32 (codes "ended") refl),
-  (decimal_word ended.epoch (small ended.epoch fits.0),
-  (decimal_word ended.thread (small ended.thread fits.1),
-  (decimal_word ended.entries fits.2,
-  (decimal_word ended.outputs fits.3, tt)))),
+  (
+    decimal_word ended.epoch (small ended.epoch fits.0),
+    (
+      decimal_word ended.thread (small ended.thread fits.1),
+      (
+        decimal_word ended.entries fits.2,
+        (decimal_word ended.outputs fits.3, tt),
+      ),
+    ),
+  ),
 )
 are_words (line.Released thread number) fits = (
   (refl, above_test 32 (codes "released") refl),

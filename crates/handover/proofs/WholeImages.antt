@@ -1,7 +1,7 @@
 -- What the reader makes of the lines is the image of which they are the lines.
-use Rattle.std.proofs.Common.{◌≡◌, ℕ, ◌+◌, ◌<◌, ◌≤◌, ◌⊎◌, inl, inr, arith, List, [], ◌∷◌, ◌++◌, length, refl, sym, ap}
+use Rattle.std.proofs.Common.{◌≡◌, ℕ, ◌+◌, ◌≤◌, ◌⊎◌, inl, inr, arith, List, [], ◌∷◌, ◌++◌, length, refl, sym, ap}
 use Rattle.std.proofs.Common.{◌∙◌, subst}
-use Rattle.std.proofs.Common.{Bool, true, false, Some, append_assoc, append-nil}
+use Rattle.std.proofs.Common.{true, false, Some, append_assoc, append-nil}
 use Rattle.std.specs.Prelude.{map}
 use Rattle.std.specs.Str.Lines.{lines}
 use Rattle.plain_text.specs.declared.fault.LineCause.{LineCause}
@@ -344,8 +344,15 @@ past_in (ln ∷ lines) = onto_past ln (past_in lines)
 abbrev counts_in : ImageLine → List EndedThread → List (ℕ × ℕ) → List PlainMove → Image
 counts_in line.Heading es rs ms = empty
 counts_in (line.State fed clock draws epoch moves bytes) es rs ms = record {
-  fed = fed; clock = clock; draws = draws; epoch = epoch; moves = moves; bytes = bytes;
-  ended = es; released = rs; past = ms;
+  fed = fed;
+  clock = clock;
+  draws = draws;
+  epoch = epoch;
+  moves = moves;
+  bytes = bytes;
+  ended = es;
+  released = rs;
+  past = ms;
 }
 counts_in (line.Ended e) es rs ms = empty
 counts_in (line.Released t n) es rs ms = empty

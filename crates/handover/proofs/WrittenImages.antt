@@ -1,11 +1,11 @@
 -- The text that is put together from the lines of an image, list by list, is the text of the image.
-use Rattle.std.proofs.Common.{◌≡◌, ℕ, ◌+◌, ◌<◌, List, [], ◌∷◌, ◌++◌, length, take, get_or, refl, sym, ap, ◌∙◌}
+use Rattle.std.proofs.Common.{◌≡◌, ℕ, ◌+◌, ◌<◌, List, [], ◌∷◌, ◌++◌, length, take, get_or, sym, ap, ◌∙◌}
 use Rattle.std.proofs.Common.{append_assoc}
 use Rattle.std.specs.Prelude.{All, codes, decimal, map}
 use Rattle.std.specs.List.{flat_map}
 use Rattle.std.proofs.lemmas.Grind.{flat_map-append}
 use Rattle.std.proofs.lemmas.List.{flat_map_more, take_more}
-use Rattle.std.proofs.lemmas.List.Elements.{All-nil, All-cons, All-append, All-map}
+use Rattle.std.proofs.lemmas.List.Elements.{All-cons, All-append, All-map}
 use Rattle.std.proofs.lemmas.List.Folds.{flat_map-map}
 use Rattle.plain_text.specs.LineFiles.{text_of}
 use Rattle.plain_machine.specs.declared.plain_move.PlainMove.{PlainMove}
@@ -13,7 +13,7 @@ use Rattle.handover.specs.declared.image.Ended.{Ended}
 use Rattle.handover.specs.declared.image.Image.{Image}
 use Rattle.handover.specs.declared.line.ImageLine.{ImageLine}
 use Rattle.handover.specs.declared.line.ImageLine.TheVariants as line
-use Rattle.handover.specs.Images.{numbered, line_text, lines_of, counts_of, lists_of, released_line, image_text}
+use Rattle.handover.specs.Images.{numbered, line_text, counts_of, lists_of, released_line, image_text}
 use Rattle.handover.specs.Images.{FitsLine, FitsImage}
 
 -- one number more

@@ -106,7 +106,15 @@ FitsImage image = All FitsLine (lines_of image)
 
 abbrev pub empty : Image
 empty = record {
-  fed = 0; clock = 0; draws = 0; epoch = 0; moves = 0; bytes = 0; ended = []; released = []; past = [];
+  fed = 0;
+  clock = 0;
+  draws = 0;
+  epoch = 0;
+  moves = 0;
+  bytes = 0;
+  ended = [];
+  released = [];
+  past = [];
 }
 
 abbrev pub with_line : Image → ImageLine → Image

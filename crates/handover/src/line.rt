@@ -22,7 +22,10 @@ pub enum ImageLine {
     /// With what a thread ended an earlier epoch.
     Ended(Ended),
     /// An output that was released.
-    Released { thread: u32, number: u64 },
+    Released {
+        thread: u32,
+        number: u64,
+    },
     /// A move of the plain run.
     Move(PlainMove),
 }

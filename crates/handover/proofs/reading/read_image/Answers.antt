@@ -1,4 +1,4 @@
-use Rattle.std.proofs.Common.{rules, ◌≡◌, ℕ, ◌+◌, arith, sym, ap, ◌∙◌}
+use Rattle.std.proofs.Common.{rules, ℕ, ◌+◌, arith, sym, ap, ◌∙◌}
 use Rattle.handover.proofs.WholeImages.{read_more, refused_behind, refused_many, refused_there}
 use Rattle.handover.proofs.reading.read_image.Goals as goal
 

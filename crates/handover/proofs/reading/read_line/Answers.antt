@@ -1,4 +1,4 @@
-use Rattle.std.proofs.Common.{rules, ◌≡◌, Some, None, Ok, Err, List, length, take, sym, ap, ◌∙◌, subst}
+use Rattle.std.proofs.Common.{rules, ◌≡◌, Some, Ok, Err, List, length, take, sym, ap, ◌∙◌, subst}
 use Rattle.std.specs.Prelude.{map}
 use Rattle.plain_text.specs.Lines.{words_of}
 use Rattle.line_tables.specs.Parts.{values_at}

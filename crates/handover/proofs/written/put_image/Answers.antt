@@ -1,4 +1,4 @@
-use Rattle.std.proofs.Common.{◌≡◌, ◌++◌, ℕ, List, ap, ◌∙◌, subst}
+use Rattle.std.proofs.Common.{◌++◌, ℕ, List, ap, ◌∙◌, subst}
 use Rattle.std.specs.Prelude.{All}
 use Rattle.plain_text.specs.LineFiles.{text_of}
 use Rattle.plain_machine.specs.declared.plain_move.PlainMove.{PlainMove}
