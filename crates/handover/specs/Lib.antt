@@ -1,0 +1,4 @@
+pub mod Images
+pub mod StagedFiles
+pub mod Table
+pub mod Values
