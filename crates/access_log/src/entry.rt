@@ -1,7 +1,7 @@
 ghost use Rattle.std.specs.Prelude.{◌≡◌, IfOk};
 
 use entry_order::What;
-use plain_text::{Bytes, HEADER_ROOM, NoMemory, Packet, Sequence};
+use plain_text::{Bytes, NoMemory, Packet, Sequence};
 use std::alloc::Global;
 use thread_clock::Stamp;
 
@@ -36,7 +36,7 @@ pub struct Output {
 /// Outputs, in the order in which they were made or released.
 pub type Outputs = Sequence<Output>;
 
-/// A copy of one output, with the bytes of its packet. There is room in front of them for the header of its frame.
+/// A copy of one output, with the bytes of its packet.
 pub fn copy_output(alloc: Global, output: &Output) -> Result<Output, NoMemory>
     ensures { IfOk result (λ copy. copy ≡ output.now) }
 {
@@ -50,7 +50,7 @@ pub fn copy_output(alloc: Global, output: &Output) -> Result<Output, NoMemory>
             seconds: packet.seconds,
             fraction: packet.fraction,
             original: packet.original,
-            bytes: Bytes::with_room(alloc, HEADER_ROOM, packet.bytes.as_slice())?,
+            bytes: Bytes::of(alloc, packet.bytes.as_slice())?,
         },
     })
 }

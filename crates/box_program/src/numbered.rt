@@ -1,7 +1,7 @@
 ghost use Rattle.std.specs.Prelude.{◌≡◌, IfOk};
 ghost use Rattle.box_program.specs.Count.{numbered};
 
-use plain_text::{Bytes, HEADER_ROOM, NoMemory, copy_with_room};
+use plain_text::{Bytes, NoMemory};
 use std::alloc::Global;
 
 /// The first byte of the number that is written into a packet, and the byte after its last.
@@ -13,9 +13,9 @@ const NUMBER_END: usize = 6;
 pub fn numbered_bytes(alloc: Global, bytes: &[u8], number: u64) -> Result<Bytes, NoMemory>
     ensures { IfOk result (λ out. out ≡ numbered bytes.now number) }
 {
-    let mut out = copy_with_room(alloc, HEADER_ROOM, bytes)?;
-    write_number(&mut out[HEADER_ROOM..], number);
-    Ok(Bytes::from_vec_at(out, HEADER_ROOM))
+    let mut out = Vec::from_slice(alloc, bytes)?;
+    write_number(&mut out, number);
+    Ok(Bytes::from_vec(out))
 }
 
 /// Writes the low 32 bits of the number into bytes 2 to 5, where there are as many.

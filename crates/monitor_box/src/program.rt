@@ -5,7 +5,7 @@ use crate::showing::text_of_totals;
 use crate::{FlowKey, FlowTable, MonitorBox, MonitorValue, Totals};
 use box_program::{Local, Move, Program};
 use packet_headers::{steering_sum, view};
-use plain_text::{Bytes, HEADER_ROOM, NoMemory, Packet, Text};
+use plain_text::{Bytes, NoMemory, Packet, Text};
 use std::alloc::Global;
 
 /// The places of the program: the flow's table is next; the totals are next, for a flow's packet or for another; the
@@ -118,7 +118,7 @@ impl Program for MonitorBox {
         packet: &Packet,
         _local: &Local,
     ) -> Result<Bytes, NoMemory> {
-        Bytes::with_room(alloc, HEADER_ROOM, packet.bytes.as_slice())
+        Bytes::of(alloc, packet.bytes.as_slice())
     }
 
     fn copy_value(

@@ -7,7 +7,7 @@ use crate::{Class, Goes, NatBox, Noted, Place};
 use flow_boxes::{STRAY, reason_of};
 use nat_tables::{Endpoint, PortKey};
 use packet_headers::{Flow, NotFlow, set_dest, set_source};
-use plain_text::{Bytes, HEADER_ROOM, NoMemory, copy_with_room};
+use plain_text::{Bytes, NoMemory};
 use std::alloc::Global;
 
 impl Noted {
@@ -107,9 +107,9 @@ impl NatBox {
         ensures { IfOk result (λ bytes. bytes
             ≡ frame_out (settings_of self.now) noted.now.class frame.now flow.now noted.now) }
     {
-        let mut copy = copy_with_room(alloc, HEADER_ROOM, frame)?;
-        self.translate(&mut copy[HEADER_ROOM..], flow, noted);
-        Ok(Bytes::from_vec_at(copy, HEADER_ROOM))
+        let mut copy = Vec::from_slice(alloc, frame)?;
+        self.translate(&mut copy, flow, noted);
+        Ok(Bytes::from_vec(copy))
     }
 
     /// The bytes that go out of a packet with these bytes, by its view.
@@ -126,7 +126,7 @@ impl NatBox {
     {
         match seen {
             Ok(flow) => self.translated(alloc, frame, &flow, noted),
-            Err(_) => Bytes::with_room(alloc, HEADER_ROOM, frame),
+            Err(_) => Bytes::of(alloc, frame),
         }
     }
 }

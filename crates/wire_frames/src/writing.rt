@@ -13,9 +13,8 @@ ghost use Rattle.wire_frames.specs.Writing.{CanPutEntry, CanPutOutput};
 use crate::stamp::{count_nonzero, mask_of};
 use access_log::{Output, StampedEntry};
 use entry_order::What;
-use plain_text::{Bytes, Kind, NoMemory, Packet};
+use plain_text::{Bytes, HEADER_ROOM, Kind, NoMemory, Packet};
 use std::alloc::Global;
-use std::mem;
 use thread_clock::Stamp;
 
 /// The bytes of an entry's frame without its components, and of an output's without its components and captured bytes.
@@ -67,13 +66,13 @@ pub fn put_entry(
     Ok(frame)
 }
 
-/// The frame of an output of this epoch, of a sender with this number of threads. Its header is put in front of the
-/// captured bytes, which stay where they are if there is room for it (`HEADER_ROOM`).
+/// The frame of an output of this epoch, of a sender with this number of threads. Its header is put in front of a copy
+/// of the captured bytes.
 pub fn put_output(
     alloc: Global,
     epoch: u32,
     threads: u32,
-    mut output: Output,
+    output: Output,
 ) -> Result<Bytes, NoMemory>
     requires { CanPutOutput epoch threads output }
     ensures spelled { IfOk result (λ bytes. bytes ≡ written (frame.Output epoch threads output)) }
@@ -83,7 +82,8 @@ pub fn put_output(
     ensures small { IfOk result (λ bytes. length bytes < 2 ^ 32) }
 {
     let size = output_length(&output);
-    let mut frame = mem::replace(&mut output.packet.bytes, Bytes::new(alloc));
+    let captured = output.packet.bytes.as_slice();
+    let mut frame = Bytes::with_room(alloc, HEADER_ROOM, captured)?;
     put_packet_fields(&mut frame, &output.packet)?;
     put_components(&mut frame, output.stamp.components(), threads as usize)?;
     put_output_front(&mut frame, size as u32, epoch, threads, &output)?;

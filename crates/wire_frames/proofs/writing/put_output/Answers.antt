@@ -10,12 +10,13 @@ use Rattle.wire_frames.proofs.writing.put_output.Goals as goal
 pub returns-clause-spelled : goal.returns-clause-spelled
 returns-clause-spelled c =
     let o = c.args.output in
-    output_written c.output_length-size.result c.args.epoch c.args.threads o c.replace-frame.result
+    let whole = c.in_ok-frame.ensures ∙ c.as_slice-captured.ensures in
+    output_written c.output_length-size.result c.args.epoch c.args.threads o c.in_ok-frame.frame
     c.put_packet_fields.new.frame c.put_components.new.frame c.components.result.now c.put_output_front.new.frame
     (output_front c.output_length-size.result c.args.epoch c.args.threads o)
-    (packet_fields (record o.packet { bytes = c.replace-frame.result })) c.replace-frame.ensures.value
+    (packet_fields (record o.packet { bytes = c.in_ok-frame.frame })) whole
     c.in_ok-put_packet_fields.ensures.spelled
-    (ap (λ (l : List ℕ). packet_fields (record o.packet { bytes = l })) c.replace-frame.ensures.value)
+    (ap (λ (l : List ℕ). packet_fields (record o.packet { bytes = l })) whole)
     c.in_ok-put_components.ensures.spelled c.components.ensures.value c.in_ok-put_output_front.ensures.spelled refl
     c.output_length-size.ensures.value
 
