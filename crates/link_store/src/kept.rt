@@ -1,4 +1,4 @@
-ghost use Rattle.std.specs.Prelude.{◌≡◌, ◌<◌, ◌^◌, ℕ, Some, IfOk, IfSome, slice_index};
+ghost use Rattle.std.specs.Prelude.{◌≡◌, ◌<◌, ◌^◌, ℕ, Some, IfOk, slice_index};
 ghost use Rattle.access_log.specs.declared.entry.Output.{Output as OutputValue};
 ghost use Rattle.access_log.specs.declared.entry.StampedEntry.{StampedEntry as EntryValue};
 ghost use Rattle.wire_frames.specs.declared.frame.Frame.TheVariants as frame_is;
@@ -115,16 +115,6 @@ impl KeptFrame {
         Ok(KeptFrame {
             form: Form::Told(Box::new(alloc, told)?),
         })
-    }
-
-    /// The bytes, where the frame is kept as them.
-    pub fn bytes(&self) -> Option<&[u8]>
-        ensures { IfSome result (λ bytes. bytes.now ≡ self.now) }
-    {
-        match &self.form {
-            Form::Spelled(bytes) => Some(bytes.as_slice()),
-            Form::Told(_) => None,
-        }
     }
 
     /// The entry of the frame, if it is that of an entry. It answers that memory ran out where a component of the stamp

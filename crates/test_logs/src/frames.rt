@@ -43,7 +43,7 @@ const OUTPUT: &[u8] = &[
 ];
 
 /// A stamp of one thread.
-fn one_component(first: u32) -> Stamp
+pub(crate) fn one_component(first: u32) -> Stamp
     ensures { (u : ℕ) → 1 ≤ u → slice_index result u ≡ 0 }
 {
     let mut components = [0; 16];

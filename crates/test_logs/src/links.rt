@@ -1,6 +1,11 @@
+ghost use Rattle.wire_frames.specs.Writing.{CanPutEntry};
+
+use crate::frames::one_component;
+use access_log::{StampedEntry, What};
 use link_store::Links;
-use plain_text::{Bytes, Kind, NoMemory};
+use plain_text::{Kind, NoMemory};
 use std::alloc::Global;
+use wire_frames::put_entry;
 
 /// An epoch, a kind, a thread and a number.
 type Numbers = (u32, Kind, u32, u64);
@@ -11,38 +16,62 @@ const SECOND: Numbers = (1, Kind::Log, 0, 2);
 
 const NEXT_EPOCH: Numbers = (2, Kind::Out, 1, 1);
 
-/// Sends a frame of one byte under these numbers.
-fn send(alloc: Global, links: &mut Links, under: Numbers, byte: u8) -> Result<(), NoMemory> {
-    let (epoch, kind, thread, number) = under;
-    links.send(epoch, kind, thread, number, Bytes::of(alloc, &[byte])?)
+/// A touch that is told apart by its variable.
+fn marked(mark: u32) -> StampedEntry
+    ensures { CanPutEntry 1 1 result }
+{
+    StampedEntry {
+        thread: 0,
+        number: 1,
+        what: What::Access {
+            var: mark,
+            place: 1,
+        },
+        stamp: one_component(1),
+    }
 }
 
-/// The byte of the frame under these numbers.
-fn byte_under(links: &Links, under: Numbers) -> Option<u8> {
+/// Sends the frame of the touch with this mark under these numbers.
+fn send(alloc: Global, links: &mut Links, under: Numbers, mark: u32) -> Result<(), NoMemory> {
     let (epoch, kind, thread, number) = under;
-    let frame = links.fetch(epoch, kind, thread, number)?;
-    frame.bytes()?.first().copied()
+    let frame = put_entry(alloc, 1, 1, &marked(mark))?;
+    links.send(epoch, kind, thread, number, frame)
 }
 
-/// The bytes under the three numbers.
-fn bytes(links: &Links) -> [Option<u8>; 3] {
-    [
-        byte_under(links, FIRST),
-        byte_under(links, SECOND),
-        byte_under(links, NEXT_EPOCH),
-    ]
+/// The mark of the frame under these numbers.
+fn mark_under(alloc: Global, links: &Links, under: Numbers) -> Result<Option<u32>, NoMemory> {
+    let (epoch, kind, thread, number) = under;
+    let Some(frame) = links.fetch(epoch, kind, thread, number) else {
+        return Ok(None);
+    };
+    let Some(entry) = frame.entry(alloc)? else {
+        return Ok(None);
+    };
+    match entry.what {
+        What::Access { var, .. } => Ok(Some(var)),
+        _ => Ok(None),
+    }
+}
+
+/// The marks under the three numbers.
+fn marks(alloc: Global, links: &Links) -> Result<[Option<u32>; 3], NoMemory> {
+    Ok([
+        mark_under(alloc, links, FIRST)?,
+        mark_under(alloc, links, SECOND)?,
+        mark_under(alloc, links, NEXT_EPOCH)?,
+    ])
 }
 
 /// Whether what was last sent is there until it is forgotten.
 fn forgets(alloc: Global, links: &mut Links) -> Result<bool, NoMemory> {
-    for (under, byte) in [(FIRST, 7), (SECOND, 8), (NEXT_EPOCH, 9), (FIRST, 6)] {
-        send(alloc, links, under, byte)?;
+    for (under, mark) in [(FIRST, 7), (SECOND, 8), (NEXT_EPOCH, 9), (FIRST, 6)] {
+        send(alloc, links, under, mark)?;
     }
-    let all = bytes(links);
+    let all = marks(alloc, links)?;
     links.forget(1, Kind::Log, 0, 1);
-    let two = bytes(links);
+    let two = marks(alloc, links)?;
     links.forget_epoch(1);
-    let one = bytes(links);
+    let one = marks(alloc, links)?;
     Ok(
         all == [Some(6), Some(8), Some(9)]
             && two == [None, Some(8), Some(9)]
