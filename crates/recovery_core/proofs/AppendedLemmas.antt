@@ -17,7 +17,8 @@ pub stands_for_some : {A E P V : Type 0} (mean : P → Meaning V) (p : Packet) (
 stands_for_some {A} {E} {P} {V} mean p (Ok a) old new ok stands err some = (
   with_more some.0 (p ∷ []),
   some.1,
-  subst (λ (q : P). StandsFor (mean q) (with_more some.0 (p ∷ [])) some.1 new) (sym (ap (λ (y : Parts P V). y.program) ok))
+  subst (λ (q : P). StandsFor (mean q) (with_more some.0 (p ∷ [])) some.1 new)
+      (sym (ap (λ (y : Parts P V). y.program) ok))
       (stands some.0 some.1 some.2),
 )
 stands_for_some {A} {E} {P} {V} mean p (Err e) old new ok stands err some =

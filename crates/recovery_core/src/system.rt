@@ -1,5 +1,5 @@
-ghost use Rattle.std.specs.Prelude.{◌≡◌, ◌<◌, ◌≤◌, ◌↔◌, ◌+◌, ◌++◌, ◌∷◌, ℕ, All, List, [], IfOk, OnOk};
-ghost use Rattle.std.specs.Prelude.{OnErr, Err, IsTrue, true, false, drop, length};
+ghost use Rattle.std.specs.Prelude.{◌≡◌, ◌<◌, ◌≤◌, ◌↔◌, ◌+◌, ◌++◌, ◌∷◌, ℕ, All, List, [], IfOk};
+ghost use Rattle.std.specs.Prelude.{OnOk, OnErr, Err, IsTrue, true, false, drop, length};
 ghost use Rattle.longer_captures.specs.Longer.{with_more};
 ghost use Rattle.plain_text.specs.Packets.{IsShort};
 ghost use Rattle.plain_text.specs.declared.limit.Limit.{Limit as LimitKind};
@@ -170,9 +170,11 @@ impl<P: Program> System<P> {
         requires short { IsShort packet }
         requires room { length self.old.parts.inputs.packets + length self.old.parts.left
             < MOST_PACKETS }
-        ensures ok { OnOk result (self.new ≡ record self.old { parts = record self.old.parts {
-          left = self.old.parts.left ++ packet ∷ [];
-        } }) }
+        ensures ok { OnOk result (self.new ≡ record self.old {
+          parts = record self.old.parts {
+            left = self.old.parts.left ++ packet ∷ [];
+          };
+        }) }
         ensures stands { OnOk result ((s : Setting P.Value) (w : World P.Value)
             → SystemStands (P.meaning self.old.parts.program) s w self.old
             → SystemStands (P.meaning self.old.parts.program) (with_more s (packet ∷ [])) w

@@ -4,7 +4,7 @@ use Rattle.recovery_core.proofs.AppendedLemmas.{stands_for_some, is_behind, is_s
 use Rattle.recovery_core.proofs.system.System.append.Goals as goal
 
 pub append-requires-clause-room : goal.append-requires-clause-room
-append-requires-clause-room g c =
+append-requires-clause-room g c κs within =
     subst (λ q. length q.parts.inputs.packets + length q.parts.left < MOST_PACKETS) (sym c.self.view_is) c.requires.room
 
 pub invariant_of-self : goal.invariant_of-self
