@@ -1,4 +1,4 @@
-ghost use Rattle.std.specs.Prelude.{◌≡◌, IfOk, drop, false};
+ghost use Rattle.std.specs.Prelude.{◌≡◌, IfOk, List, drop, false};
 ghost use Rattle.recovery_laws.specs.Sound.{Sound};
 ghost use Rattle.recovery_world.specs.Files.{moves_made, reply_line, sent_names};
 ghost use Rattle.recovery_world.specs.World.{Sent, Setting, World};
