@@ -45,9 +45,11 @@ line_is s events gone h =
     ∙ (ap (λ (n : ℕ). counts_line h.world.fed n gone.released) h.epoch
     ∙ ap (λ (n : ℕ). counts_line h.world.fed h.world.epoch n) h.released)
 
-pub drawn : {V : Type 0} (title : List ℕ) (s : Setting V) (events : List Event) (gone : Gone) (h : HasGone s events gone)
-    (texts : Texts) → texts.picture ≡ picture_text title (counts_line gone.fed gone.epoch gone.released) s.threads gone.notes
+pub drawn : {V : Type 0} (title : List ℕ) (s : Setting V) (events : List Event) (gone : Gone)
+    (h : HasGone s events gone) (texts : Texts)
+    → texts.picture ≡ picture_text title (counts_line gone.fed gone.epoch gone.released) s.threads gone.notes
     → texts.report ≡ counts_line gone.fed gone.epoch gone.released → IsDrawn title s events texts
+unfolding picture_text
 drawn title s events gone h texts text report =
     let last = line_is s events gone h in
     let same : texts.picture ≡ picture_text title (done_line h.world) s.threads gone.notes =

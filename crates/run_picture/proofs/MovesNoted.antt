@@ -1,5 +1,5 @@
 -- The moves of a world's master are legal on all inputs of the capture, and played again they are its past.
-use Rattle.std.proofs.Common.{◌≡◌, ℕ, suc, ◌+◌, ◌≤◌, arith, List, [], ◌∷◌, ◌++◌, length, drop, refl, sym, ap, ◌∙◌}
+use Rattle.std.proofs.Common.{◌≡◌, ℕ, zero, suc, ◌+◌, ◌≤◌, arith, List, [], ◌∷◌, ◌++◌, length, drop, refl, sym, ap, ◌∙◌}
 use Rattle.std.proofs.Common.{◌-◌, ◌<◌, ◌⊎◌, inl, inr, Result, Ok, Err, length-append, length-drop}
 use Rattle.std.specs.Prelude.{nat_le, if◌then◌else◌, Bool, true, false, IfOk}
 use Rattle.std.proofs.lemmas.Bool.Decides.{nat_tests}
@@ -53,7 +53,7 @@ made_long (x ∷ earlier) =
 
 drop_all : (l : List Made) (n : ℕ) → length l ≤ n → drop n l ≡ []
 drop_all [] n low = grind arith
-drop_all (x ∷ l) 0 low = absurd (omega arith)
+drop_all (x ∷ l) zero low = absurd (omega arith)
 drop_all (x ∷ l) (suc n) low = drop_all l n (omega arith)
 
 -- none is behind the last one
@@ -119,16 +119,40 @@ pub released_so : {V : Type 0} (w : SystemWorld V) (names : List (ℕ × ℕ)) (
 released_so w names many is same =
     is ∙ (ap (λ (l : List (ℕ × ℕ)). length l) same ∙ names_long w.released)
 
-pub note_is : {V : Type 0} (ev : Event) (to : Outcome) (freed : List Sent) (w : SystemWorld V) (note : Note)
-    (count : ℕ) → note.event ≡ ev → note.outcome ≡ to → note.line ≡ reply_line ev to freed
-    → note.kept ≡ note.moves - count → count ≡ moves_by to → note.made ≡ made_at note.kept w
-    → note.moves ≡ length w.past → note.fed ≡ w.fed → note.released ≡ length w.released → note.up ≡ w.up
-    → note.epoch ≡ w.epoch → note ≡ note_of ev to freed w
-note_is ev to freed w note count event outcome line kept counted made moves fed released up epoch =
-    let same : note.kept ≡ length w.past - moves_by to =
-    kept ∙ ap (λ (n : ℕ). n - count) moves ∙ ap (λ (n : ℕ). length w.past - n) counted in
-    let what : note.made ≡ made_at (length w.past - moves_by to) w = made ∙ ap (λ (n : ℕ). made_at n w) same in
-    cc
+abbrev pub note_at : Event → Outcome → List ℕ → ℕ → List Made → ℕ → ℕ → ℕ → Bool → ℕ → Note
+note_at ev to l k m n f r u e = record {
+  event = ev;
+  outcome = to;
+  line = l;
+  kept = k;
+  made = m;
+  moves = n;
+  fed = f;
+  released = r;
+  up = u;
+  epoch = e;
+}
+
+pub note_is : {V : Type 0} (ev : Event) (to : Outcome) (freed : List Sent) (w : SystemWorld V) (line : List ℕ)
+    (kept count : ℕ) (made : List Made) (moves fed released : ℕ) (up : Bool) (epoch : ℕ)
+    → line ≡ reply_line ev to freed → kept ≡ moves - count → count ≡ moves_by to → made ≡ made_at kept w
+    → moves ≡ length w.past → fed ≡ w.fed → released ≡ length w.released → up ≡ w.up → epoch ≡ w.epoch
+    → note_at ev to line kept made moves fed released up epoch ≡ note_of ev to freed w
+note_is ev to freed w line kept count made moves fed released up epoch a b counted c d e f g h =
+    let k : ℕ = length w.past - moves_by to in
+    let same : kept ≡ k =
+    b ∙ (ap (λ (n : ℕ). n - count) d ∙ ap (λ (n : ℕ). length w.past - n) counted) in
+    let what : made ≡ made_at k w = c ∙ ap (λ (n : ℕ). made_at n w) same in
+    let words : List ℕ = reply_line ev to freed in
+    let many : ℕ = length w.past in
+    ap (λ (x : List ℕ). note_at ev to x kept made moves fed released up epoch) a
+    ∙ (ap (λ (x : ℕ). note_at ev to words x made moves fed released up epoch) same
+    ∙ (ap (λ (x : List Made). note_at ev to words k x moves fed released up epoch) what
+    ∙ (ap (λ (x : ℕ). note_at ev to words k (made_at k w) x fed released up epoch) d
+    ∙ (ap (λ (x : ℕ). note_at ev to words k (made_at k w) many x released up epoch) e
+    ∙ (ap (λ (x : ℕ). note_at ev to words k (made_at k w) many w.fed x up epoch) f
+    ∙ (ap (λ (x : Bool). note_at ev to words k (made_at k w) many w.fed (length w.released) x epoch) g
+    ∙ ap (λ (x : ℕ). note_at ev to words k (made_at k w) many w.fed (length w.released) w.up x) h))))))
 
 pub behind_known : {V E : Type 0} (m : Meaning V) (inputs : Fed) (moves : List PlainMove) (kept : ℕ)
     → length moves ≤ 400 → (made : List Made)

@@ -17,7 +17,7 @@ use Rattle.run_drawing.specs.Picture.{at_first, events_from, picture}
 use Rattle.run_drawing.specs.Promises.{is_move, is_released, move_titles, release_titles, titles_where}
 
 -- the bytes of a picture with this title, and with this last line of the report, of so many threads
-abbrev pub picture_text : List ℕ → List ℕ → ℕ → List Note → List ℕ
+unfoldable pub picture_text : List ℕ → List ℕ → ℕ → List Note → List ℕ
 picture_text title last threads notes = drawing_text (picture title last threads notes)
 
 -- The events lead to this world, and this is the picture of their run, with this title: it is drawn of what is noted of

@@ -106,7 +106,10 @@ pub fn note_event<P: Program>(
     let many = moves.len() as u64;
     let kept = many.saturating_sub(count_moves(&reply.outcome));
     let made = made_behind(alloc, program, inputs, moves, kept as usize)?;
-    let Reply { outcome, released: _ } = reply;
+    let Reply {
+        outcome,
+        released: _,
+    } = reply;
     Ok(Note {
         event: *event,
         outcome,

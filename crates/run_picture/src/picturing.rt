@@ -3,6 +3,8 @@ ghost use Rattle.plain_text.specs.declared.limit.Limit.{Limit as LimitKind};
 ghost use Rattle.world_io.specs.World.{Start, WritingFailed};
 ghost use Rattle.output_files.specs.Written.{Writes, WritesFiles};
 ghost use Rattle.run_writes.specs.Run.{CanRun, counts_line, setting_of};
+ghost use Rattle.run_picture.specs.Going.{HasGone};
+ghost use Rattle.run_picture.specs.Noting.{IsHalted};
 ghost use Rattle.run_picture.specs.Picture.{HasBegunPicture, HasPictured, HasStopped};
 ghost use Rattle.run_picture.specs.Picture.{picture_text, picture_writes};
 ghost use Rattle.run_picture.specs.Picturing.{ComesTo, IsHalt, WritesPicture};
@@ -56,16 +58,12 @@ fn halt(stop: Stop) -> Result<Result<Texts, Limit>, NoMemory>
     }
 }
 
-/// Performs the events of a run and draws its picture; or tells at which limit an event stopped.
-fn draw_run<P: Program>(
-    alloc: Global,
-    title: &[u8],
-    run: ScriptRun,
-    program: &P,
-) -> Result<Result<Texts, Limit>, NoMemory>
+/// Performs the events of a run with a new system, and notes what they did.
+fn perform_run<P: Program>(alloc: Global, run: ScriptRun, program: &P) -> Result<Gone, Stop>
     requires { CanRun run }
-    ensures { IfOk result
-        (ComesTo title.now (setting_of (P.meaning program.now) run) run.events) }
+    ensures gone { IfOk result (HasGone (setting_of (P.meaning program.now) run) run.events) }
+    ensures limit { (limit : LimitKind) → result ≡ Err (Stop.Limit limit)
+        → IsHalted (setting_of (P.meaning program.now) run) run.events limit }
 {
     let packets = copy_packets(alloc, run.packets.as_slice())?;
     let inputs = log_all(alloc, run.threads, packets)?;
@@ -78,9 +76,24 @@ fn draw_run<P: Program>(
         run.unit,
         run.packets,
     )?;
-    match run_events(alloc, &lent, &inputs, system, run.events.as_slice()) {
+    run_events(alloc, &lent, &inputs, system, run.events.as_slice())
+}
+
+/// Performs the events of a run and draws its picture; or tells at which limit an event stopped.
+fn draw_run<P: Program>(
+    alloc: Global,
+    title: &[u8],
+    run: ScriptRun,
+    program: &P,
+) -> Result<Result<Texts, Limit>, NoMemory>
+    requires { CanRun run }
+    ensures { IfOk result
+        (ComesTo title.now (setting_of (P.meaning program.now) run) run.events) }
+{
+    let threads = run.threads;
+    match perform_run(alloc, run, program) {
         Ok(gone) => {
-            let texts = put_texts(alloc, title, run.threads, &gone)?;
+            let texts = put_texts(alloc, title, threads, &gone)?;
             Ok(Ok(texts))
         }
         Err(stop) => halt(stop),

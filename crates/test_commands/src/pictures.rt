@@ -47,7 +47,10 @@ fn refuses_words_of_no_picture(rt: HostRuntime) -> Result<(), Fail> {
 #[test]
 fn draws_16_threads(rt: HostRuntime) -> Result<(), Fail> {
     let case = Case {
-        files: &[("box", b"box monitor\nthreads 16\n"), ("script", b"settle\n")],
+        files: &[
+            ("box", b"box monitor\nthreads 16\n"),
+            ("script", b"settle\n"),
+        ],
         commands: &[
             &["make", "5", "32", "in"],
             &["picture", "box", "in", "script", "picture"],

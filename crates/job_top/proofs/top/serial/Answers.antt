@@ -266,7 +266,8 @@ returns-in-Some-Picture-clause-limit g c p q limit e =
 
 pub returns-in-Some-Picture-clause-others : goal.returns-in-Some-Picture-clause-others
 returns-in-Some-Picture-clause-others g c p q =
-    rw (c.in-Some-Picture.ensures, c.in-Some-Picture.field-0-is) (picture_others (picture_names_of c.in-Some-Picture.names)
+    rw (c.in-Some-Picture.ensures, c.in-Some-Picture.field-0-is)
+    (picture_others (picture_names_of c.in-Some-Picture.names)
     (g.W.World.shows p c.args.world.now) (g.W.World.shows p c.picture.new.world) (c.picture.ensures.in_order p q))
 
 pub returns-in-Some-Picture-clause-write_fault : goal.returns-in-Some-Picture-clause-write_fault

@@ -12,8 +12,9 @@ returns-clause-gone g c s are h =
     record {
       world = noted.world;
       noted = noted.noted;
-      fed = fed_so (g.P.Program.meaning c.args.program.now) c.args.inputs.now s noted.world c.fed.result c.left.result are
-          noted.stands.parts.sound c.fed.ensures (c.left.ensures s noted.world noted.stands.parts);
+      fed = c.saturating_sub.ensures
+          ∙ fed_so (g.P.Program.meaning c.args.program.now) c.args.inputs.now s noted.world c.fed.result c.left.result
+          are noted.stands.parts.sound c.fed.ensures (c.left.ensures s noted.world noted.stands.parts);
       epoch = c.epoch.ensures s noted.world noted.stands.parts;
       released = released_so noted.world c.released.result.now c.len.result c.len.ensures
           (c.released.ensures noted.world noted.stands.released);
