@@ -23,8 +23,10 @@ use Rattle.run_writes.specs.declared.error.RunError.TheVariants as run
 use Rattle.run_writes.specs.Errors.{run_result_of}
 use Rattle.run_writes.specs.Run.{KeepsShown, counts_line}
 use Rattle.run_writes.proofs.RunWrites.{other_name, same_name}
+use Rattle.svg_text.specs.Drawing.{drawing_text}
 use Rattle.svg_text.specs.WellFormed.{IsWellFormed}
 use Rattle.svg_text.proofs.Elements.{picture_well_formed}
+use Rattle.run_drawing.specs.declared.note.Note.{Note}
 use Rattle.run_drawing.specs.Picture.{at_first, picture}
 use Rattle.run_drawing.proofs.MovesShown.{moves_shown}
 use Rattle.run_drawing.proofs.ReleasesShown.{releases_shown}
@@ -44,6 +46,15 @@ line_is s events gone h =
     ap (λ (n : ℕ). counts_line n gone.epoch gone.released) h.fed
     ∙ (ap (λ (n : ℕ). counts_line h.world.fed n gone.released) h.epoch
     ∙ ap (λ (n : ℕ). counts_line h.world.fed h.world.epoch n) h.released)
+
+pub text_is : (title last slice : List ℕ) (threads : ℕ) (notes all : List Note) (text : List ℕ)
+    → text ≡ drawing_text (picture title slice threads all) → slice ≡ last → all ≡ notes
+    → text ≡ picture_text title last threads notes
+unfolding picture_text
+text_is title last slice threads notes all text is same every =
+    is
+    ∙ (ap (λ (l : List ℕ). drawing_text (picture title l threads all)) same
+    ∙ ap (λ (n : List Note). drawing_text (picture title last threads n)) every)
 
 pub drawn : {V : Type 0} (title : List ℕ) (s : Setting V) (events : List Event) (gone : Gone)
     (h : HasGone s events gone) (texts : Texts)

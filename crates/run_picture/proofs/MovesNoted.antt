@@ -52,7 +52,8 @@ made_long (x ∷ earlier) =
     length-append (made_in earlier) _ ∙ (let rest = made_long earlier in omega (arith, rest))
 
 drop_all : (l : List Made) (n : ℕ) → length l ≤ n → drop n l ≡ []
-drop_all [] n low = grind arith
+drop_all [] zero low = refl
+drop_all [] (suc n) low = refl
 drop_all (x ∷ l) zero low = absurd (omega arith)
 drop_all (x ∷ l) (suc n) low = drop_all l n (omega arith)
 

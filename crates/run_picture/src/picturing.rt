@@ -42,7 +42,7 @@ fn put_texts(alloc: Global, title: &[u8], threads: u32, gone: &Gone) -> Result<T
         alloc,
         title,
         report.as_slice(),
-        u64::from(threads),
+        threads as u64,
         gone.notes.as_slice(),
     )?;
     Ok(Texts { picture, report })
