@@ -62,10 +62,10 @@ module _ (a b c : Shown) (keeps : KeepsOutputs a b) where
 
 -- A run of which there is a picture leaves what `run` writes.
 record LeavesSome {V : Type 0} (s : Setting V) (events : List Event) : Type 0 where
-  report : List ℕ
-  released : List Packet
-  schedule : List PlainMove
-  leaves : Leaves s events report released schedule
+  pub report : List ℕ
+  pub released : List Packet
+  pub schedule : List PlainMove
+  pub leaves : Leaves s events report released schedule
 
 leaves_some : {V : Type 0} (title : List ℕ) (s : Setting V) (events : List Event) (name : List ℕ) (a c : Shown)
     → HasPictured title s events name a c → LeavesSome s events

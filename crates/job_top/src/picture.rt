@@ -26,7 +26,7 @@ fn draw_box<W: World>(
     alloc: Global,
     world: &mut W,
     name: &Text,
-    title: &[u8],
+    title: &Text,
     inputs: Inputs,
 ) -> Result<(), RunError>
     requires inputs { CanRun (script_of inputs) }
@@ -95,10 +95,7 @@ pub(crate) fn picture<W: World>(alloc: Global, world: &mut W, names: PictureWord
         schedule: names.picture,
     };
     match read_inputs(alloc, world, run) {
-        Ok(inputs) => {
-            let title = names.box_file.as_str().as_bytes();
-            run_outcome(draw_box(alloc, world, names.picture, title, inputs))
-        }
+        Ok(inputs) => run_outcome(draw_box(alloc, world, names.picture, names.box_file, inputs)),
         Err(status) => status,
     }
 }

@@ -47,14 +47,15 @@ line_is s events gone h =
     ∙ (ap (λ (n : ℕ). counts_line h.world.fed n gone.released) h.epoch
     ∙ ap (λ (n : ℕ). counts_line h.world.fed h.world.epoch n) h.released)
 
-pub text_is : (title last slice : List ℕ) (threads : ℕ) (notes all : List Note) (text : List ℕ)
-    → text ≡ drawing_text (picture title slice threads all) → slice ≡ last → all ≡ notes
+pub text_is : (title words last slice : List ℕ) (threads : ℕ) (notes all : List Note) (text : List ℕ)
+    → text ≡ drawing_text (picture words slice threads all) → words ≡ title → slice ≡ last → all ≡ notes
     → text ≡ picture_text title last threads notes
 unfolding picture_text
-text_is title last slice threads notes all text is same every =
+text_is title words last slice threads notes all text is named same every =
     is
+    ∙ (ap (λ (l : List ℕ). drawing_text (picture l slice threads all)) named
     ∙ (ap (λ (l : List ℕ). drawing_text (picture title l threads all)) same
-    ∙ ap (λ (n : List Note). drawing_text (picture title last threads n)) every)
+    ∙ ap (λ (n : List Note). drawing_text (picture title last threads n)) every))
 
 pub drawn : {V : Type 0} (title : List ℕ) (s : Setting V) (events : List Event) (gone : Gone)
     (h : HasGone s events gone) (texts : Texts)

@@ -29,8 +29,15 @@ pub struct Texts {
     pub report: Bytes,
 }
 
+/// The bytes of a title.
+fn bytes_of(title: &Text) -> &[u8]
+    ensures { result.now ≡ title.now }
+{
+    title.as_str().as_bytes()
+}
+
 /// The texts of a picture, with this title, of events that were all performed by so many threads.
-fn put_texts(alloc: Global, title: &[u8], threads: u32, gone: &Gone) -> Result<Texts, NoMemory>
+fn put_texts(alloc: Global, title: &Text, threads: u32, gone: &Gone) -> Result<Texts, NoMemory>
     requires { threads ≤ 16 }
     ensures picture { IfOk result (λ texts. texts.picture ≡ picture_text title.now
         (counts_line gone.now.fed gone.now.epoch gone.now.released) threads gone.now.notes) }
@@ -40,7 +47,7 @@ fn put_texts(alloc: Global, title: &[u8], threads: u32, gone: &Gone) -> Result<T
     let report = put_done(alloc, gone.fed, gone.epoch, gone.released)?;
     let picture = put_picture(
         alloc,
-        title,
+        bytes_of(title),
         report.as_slice(),
         threads as u64,
         gone.notes.as_slice(),
@@ -82,7 +89,7 @@ fn perform_run<P: Program>(alloc: Global, run: ScriptRun, program: &P) -> Result
 /// Performs the events of a run and draws its picture; or tells at which limit an event stopped.
 fn draw_run<P: Program>(
     alloc: Global,
-    title: &[u8],
+    title: &Text,
     run: ScriptRun,
     program: &P,
 ) -> Result<Result<Texts, Limit>, NoMemory>
@@ -144,7 +151,7 @@ pub fn run_picture<P: Program, W: World>(
     alloc: Global,
     world: &mut W,
     name: &Text,
-    title: &[u8],
+    title: &Text,
     run: ScriptRun,
     program: P,
 ) -> Result<(), RunError>
