@@ -8,7 +8,7 @@ PREFIX ?= /usr/local
 
 SOURCES := crates.txt scripts/build $(shell find crates -name out -prune -o -type f -print)
 
-.PHONY: all try test plants promises manual example bench plots soak interop install clean distclean
+.PHONY: all try test plants promises manual example bench plots pictures soak interop install clean distclean
 
 # The program, proved and built.
 all: build/ftmb
@@ -66,6 +66,10 @@ bench: build/ftmb build/bench
 plots: build/ftmb
 	scripts/plots build/ftmb build/figures build/plots docs/pictures
 
+# Draws the pictures of README, EXAMPLES and RECOVERY into docs/pictures.
+pictures: build/ftmb
+	scripts/pictures build/ftmb build/pictures docs/pictures
+
 # Random scripts with crashes from 2,000 seeds, each performed twice and accepted by the check; 500 plans of racing threads, each run again by
 # the script that it wrote; runs of which each request for memory is refused in turn; and runs in which reads and writes fail, disks are full,
 # pipes are closed, inputs shrink, and signals come.
@@ -77,10 +81,11 @@ soak: build/ftmb
 
 # Runs the program so that it ends with each of its statuses, and compares what it tells. Runs it on captures in all four forms and on
 # pcapng captures, and has tcpdump and Wireshark's tools read what was released; and has tshark verify the checksums of generated packets,
-# and of those that four racing threads sent through the NAT.
+# and of those that four racing threads sent through the NAT. Chromium draws the pictures, where it is installed.
 interop: build/ftmb
 	scripts/statuses build/ftmb build/statuses
 	scripts/interop build/ftmb build/interop
+	scripts/browser build/ftmb build/browser
 
 # The manual page, README and the help, beside the tables of the code.
 manual:

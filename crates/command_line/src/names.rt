@@ -48,7 +48,7 @@ fn has_outputs(line: &[Text]) -> bool {
     match command.as_str() {
         "run" | "drill" => line.len() == 6,
         "live" => line.len() == 7,
-        "play" | "trace" => line.len() == 5,
+        "play" | "trace" | "picture" => line.len() == 5,
         _ => false,
     }
 }
@@ -59,7 +59,7 @@ pub(crate) fn count_inputs(line: &[Text]) -> usize {
         return 0;
     };
     match command.as_str() {
-        "run" | "live" | "play" | "trace" => 3,
+        "run" | "live" | "play" | "trace" | "picture" => 3,
         "check" => 4,
         "drill" => 2,
         "watch" => 1,

@@ -50,6 +50,13 @@ Performs a script as `run` does, and tells of each packet what became of it.
             tabs: its number, its thread, its number there, the epoch and the
             event with which it left, and its fate, written
 
+ftmb picture BOX CAPTURE SCRIPT PICTURE
+
+Performs a script as `run` does, and draws it.
+
+  PICTURE   SVG: each thread's moves, what arrived, waited and was released,
+            crashes and epochs; of more than 400 moves an overview, written
+
 ftmb tap NAME .. run BOX CAPTURE SCRIPT RELEASED SCHEDULE
 ftmb tap NAME .. live BOX CAPTURE PLAN RELEASED SCHEDULE SCRIPT
 

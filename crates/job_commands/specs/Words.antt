@@ -12,6 +12,7 @@ use Rattle.job_commands.specs.declared.schedule_words.PlayWords.{PlayWords}
 use Rattle.job_commands.specs.declared.schedule_words.CheckWords.{CheckWords}
 use Rattle.job_commands.specs.declared.drill_words.DrillWords.{DrillWords}
 use Rattle.job_commands.specs.declared.trace_words.TraceWords.{TraceWords}
+use Rattle.job_commands.specs.declared.picture_words.PictureWords.{PictureWords}
 use Rattle.job_commands.specs.declared.command.Command as command_words
 use Rattle.job_commands.specs.declared.command.Command.TheVariants as words
 
@@ -249,6 +250,40 @@ trace_names (command ∷ box_file ∷ capture ∷ script ∷ table ∷ []) =
     else None
 trace_names (a ∷ b ∷ c ∷ d ∷ e ∷ f ∷ more) = None
 
+-- the names of the files of a picture
+pub record PictureNames : Type 0 where
+  pub box_file : List ℕ
+  pub capture : List ℕ
+  pub script : List ℕ
+  pub picture : List ℕ
+
+abbrev pub picture_names_of : PictureWords → PictureNames
+picture_names_of w =
+    record { box_file = w.box_file.now; capture = w.capture.now; script = w.script.now; picture = w.picture.now }
+
+-- the names of the run of which the picture is; it writes no outputs, and the picture stands for both
+abbrev pub pictured_run : PictureNames → RunNames
+pictured_run names = record {
+  box_file = names.box_file;
+  capture = names.capture;
+  script = names.script;
+  released = names.picture;
+  schedule = names.picture;
+}
+
+-- `picture` with four names
+abbrev pub picture_names : List (List ℕ) → Option PictureNames
+picture_names [] = None
+picture_names (a ∷ []) = None
+picture_names (a ∷ b ∷ []) = None
+picture_names (a ∷ b ∷ c ∷ []) = None
+picture_names (a ∷ b ∷ c ∷ d ∷ []) = None
+picture_names (command ∷ box_file ∷ capture ∷ script ∷ picture ∷ []) =
+    if bytes_eq command (codes "picture")
+    then Some (record { box_file = box_file; capture = capture; script = script; picture = picture })
+    else None
+picture_names (a ∷ b ∷ c ∷ d ∷ e ∷ f ∷ more) = None
+
 -- a command, with what its words name
 pub data Asked : Type 0 where
   Runs : RunNames → Asked
@@ -258,24 +293,26 @@ pub data Asked : Type 0 where
   Checks : CheckNames → Asked
   Drills : DrillNames → Asked
   Traces : TraceNames → Asked
+  Draws : PictureNames → Asked
 
 -- the one command whose names are there; no words are those of two
 abbrev pub one_of : Option RunNames → Option LiveNames → Option MakeNames → Option PlayNames → Option CheckNames
-    → Option DrillNames → Option TraceNames → Option Asked
-one_of (Some names) live make play check drill trace = Some (Runs names)
-one_of None (Some names) make play check drill trace = Some (Lives names)
-one_of None None (Some names) play check drill trace = Some (Makes names)
-one_of None None None (Some names) check drill trace = Some (Plays names)
-one_of None None None None (Some names) drill trace = Some (Checks names)
-one_of None None None None None (Some names) trace = Some (Drills names)
-one_of None None None None None None (Some names) = Some (Traces names)
-one_of None None None None None None None = None
+    → Option DrillNames → Option TraceNames → Option PictureNames → Option Asked
+one_of (Some names) live make play check drill trace picture = Some (Runs names)
+one_of None (Some names) make play check drill trace picture = Some (Lives names)
+one_of None None (Some names) play check drill trace picture = Some (Makes names)
+one_of None None None (Some names) check drill trace picture = Some (Plays names)
+one_of None None None None (Some names) drill trace picture = Some (Checks names)
+one_of None None None None None (Some names) trace picture = Some (Drills names)
+one_of None None None None None None (Some names) picture = Some (Traces names)
+one_of None None None None None None None (Some names) = Some (Draws names)
+one_of None None None None None None None None = None
 
--- the command that words ask for: `run`, `live`, `make`, `play`, `check`, `drill` or `trace`
+-- the command that words ask for: `run`, `live`, `make`, `play`, `check`, `drill`, `trace` or `picture`
 abbrev pub asked : List (List ℕ) → Option Asked
 asked words =
     one_of (run_names words) (live_names words) (make_names words) (play_names words) (check_names words)
-    (drill_names words) (trace_names words)
+    (drill_names words) (trace_names words) (picture_names words)
 
 -- where the words ask for a command, this is so of it
 abbrev pub IfAsks : List (List ℕ) → (Asked → Type 0) → Type 0
@@ -289,6 +326,7 @@ asked_of (words.Play w) = Plays (play_names_of w)
 asked_of (words.Check w) = Checks (check_names_of w)
 asked_of (words.Drill w) = Drills (drill_names_of w)
 asked_of (words.Trace w) = Traces (trace_names_of w)
+asked_of (words.Picture w) = Draws (picture_names_of w)
 
 -- The names of the input files of a command, in the order of its words, which is the order in which they are read
 
@@ -316,3 +354,4 @@ inputs_of (Plays names) = schedule_inputs names.files
 inputs_of (Checks names) = check_inputs names
 inputs_of (Drills names) = drill_inputs names
 inputs_of (Traces names) = run_inputs (traced_run names)
+inputs_of (Draws names) = run_inputs (pictured_run names)

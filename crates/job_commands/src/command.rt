@@ -2,9 +2,9 @@ ghost use Rattle.std.specs.Prelude.{◌≡◌, MatchOption, None, Some};
 ghost use Rattle.job_commands.specs.Words.{asked, asked_of};
 
 use crate::{
-    CheckWords, DrillWords, LiveWords, MakeWords, PlayWords, RunWords, TraceWords,
-    read_check_words, read_drill_words, read_live_words, read_make_words, read_play_words,
-    read_run_words, read_trace_words,
+    CheckWords, DrillWords, LiveWords, MakeWords, PictureWords, PlayWords, RunWords, TraceWords,
+    read_check_words, read_drill_words, read_live_words, read_make_words, read_picture_words,
+    read_play_words, read_run_words, read_trace_words,
 };
 use plain_text::Text;
 
@@ -18,6 +18,7 @@ pub enum Command<'a> {
     Check(CheckWords<'a>),
     Drill(DrillWords<'a>),
     Trace(TraceWords<'a>),
+    Picture(PictureWords<'a>),
 }
 
 /// The command that the words ask for. None where they are no command's.
@@ -43,6 +44,9 @@ pub fn read_command(words: &[Text]) -> Option<Command<'_>>
     if let Some(names) = read_drill_words(words) {
         return Some(Command::Drill(names));
     }
-    let names = read_trace_words(words)?;
-    Some(Command::Trace(names))
+    if let Some(names) = read_trace_words(words) {
+        return Some(Command::Trace(names));
+    }
+    let names = read_picture_words(words)?;
+    Some(Command::Picture(names))
 }

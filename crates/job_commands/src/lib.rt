@@ -1,5 +1,5 @@
 //! The commands of FTMB beside the top call: their words and statuses, `make`, `play` and `check`, the inputs of `run`,
-//! `trace`, `live` and `drill`, and the laws.
+//! `trace`, `picture`, `live` and `drill`, and the laws.
 #![tactic(auto)]
 
 mod checking;
@@ -12,6 +12,7 @@ mod live_inputs;
 mod live_words;
 mod make_words;
 mod making;
+mod picture_words;
 mod playing;
 mod run_words;
 mod schedule_inputs;
@@ -33,6 +34,7 @@ pub use live_inputs::{LiveInputs, read_live_inputs};
 pub use live_words::{LiveWords, read_live_words};
 pub use make_words::{MakeWords, read_make_words};
 pub use making::make_capture;
+pub use picture_words::{PictureWords, read_picture_words};
 pub use playing::play_capture;
 pub use run_words::{RunWords, read_run_words};
 pub use schedule_inputs::{CheckInputs, ScheduleInputs, read_check_inputs, read_schedule_inputs};

@@ -29,7 +29,7 @@ use Rattle.job_commands.specs.declared.status.Status.TheVariants as status
 use Rattle.job_commands.specs.Live.{AcceptsLiveInputs, JudgesLiveFiles, JudgesLiveInputs}
 use Rattle.job_commands.specs.Status.{AtAnyTime, AtInputs, Completes, run_outcome, stage_of}
 use Rattle.job_commands.specs.Words.{CheckNames, DrillNames, IfAsks, LiveNames, Lives, MakeNames, PlayNames, RunNames}
-use Rattle.job_commands.specs.Words.{TraceNames, asked, trace_names}
+use Rattle.job_commands.specs.Words.{PictureNames, TraceNames, asked, picture_names, trace_names}
 use Rattle.job_commands.specs.Words.{check_names, drill_names, live_names, make_names, one_of, play_names, run_names}
 use Rattle.job_commands.proofs.LiveFiles.{live_pass}
 use Rattle.job_commands.proofs.Outcomes.{begun_since, begun_writes_since, run_since, stopped_since, files_since}
@@ -234,38 +234,41 @@ lives_asked (a ∷ b ∷ c ∷ d ∷ e ∷ f ∷ g ∷ i ∷ more) names h = abs
 
 -- words that are not those of `live` do not ask for it
 pub not_lives : (run : Option RunNames) (live : Option LiveNames) (make : Option MakeNames) (play : Option PlayNames)
-    (check : Option CheckNames) (drill : Option DrillNames) (trace : Option TraceNames) (names : LiveNames)
-    → live ≡ None → one_of run live make play check drill trace ≡ Some (Lives names) → ⊥
-not_lives run (Some l) make play check drill trace names none is = absurd (cc)
-not_lives (Some r) None make play check drill trace names none is = absurd (cc)
-not_lives None None (Some m) play check drill trace names none is = absurd (cc)
-not_lives None None None (Some p) check drill trace names none is = absurd (cc)
-not_lives None None None None (Some c) drill trace names none is = absurd (cc)
-not_lives None None None None None (Some d) trace names none is = absurd (cc)
-not_lives None None None None None None (Some t) names none is = absurd (cc)
-not_lives None None None None None None None names none is = absurd (cc)
+    (check : Option CheckNames) (drill : Option DrillNames) (trace : Option TraceNames)
+    (picture : Option PictureNames) (names : LiveNames) → live ≡ None
+    → one_of run live make play check drill trace picture ≡ Some (Lives names) → ⊥
+not_lives run (Some l) make play check drill trace picture names none is = absurd (cc)
+not_lives (Some r) None make play check drill trace picture names none is = absurd (cc)
+not_lives None None (Some m) play check drill trace picture names none is = absurd (cc)
+not_lives None None None (Some p) check drill trace picture names none is = absurd (cc)
+not_lives None None None None (Some c) drill trace picture names none is = absurd (cc)
+not_lives None None None None None (Some d) trace picture names none is = absurd (cc)
+not_lives None None None None None None (Some t) picture names none is = absurd (cc)
+not_lives None None None None None None None (Some v) names none is = absurd (cc)
+not_lives None None None None None None None None names none is = absurd (cc)
 
 -- What the other commands leave does not hang on the clock.
 leave_any : (may : ℕ → Type 0) (run : Option RunNames) (live : Option LiveNames) (make : Option MakeNames)
     (play : Option PlayNames) (check : Option CheckNames) (drill : Option DrillNames) (trace : Option TraceNames)
-    (old new : Shown) → live ≡ None
-    → IfSome (one_of run live make play check drill trace) (λ command. Leaves (λ t. ⊥) command old new)
-    → IfSome (one_of run live make play check drill trace) (λ command. Leaves may command old new)
-leave_any may (Some r) live make play check drill trace old new none h = h
-leave_any may None (Some l) make play check drill trace old new none h = absurd (cc)
-leave_any may None None (Some m) play check drill trace old new none h = h
-leave_any may None None None (Some p) check drill trace old new none h = h
-leave_any may None None None None (Some c) drill trace old new none h = h
-leave_any may None None None None None (Some d) trace old new none h = h
-leave_any may None None None None None None (Some t) old new none h = h
-leave_any may None None None None None None None old new none h = h
+    (picture : Option PictureNames) (old new : Shown) → live ≡ None
+    → IfSome (one_of run live make play check drill trace picture) (λ command. Leaves (λ t. ⊥) command old new)
+    → IfSome (one_of run live make play check drill trace picture) (λ command. Leaves may command old new)
+leave_any may (Some r) live make play check drill trace picture old new none h = h
+leave_any may None (Some l) make play check drill trace picture old new none h = absurd (cc)
+leave_any may None None (Some m) play check drill trace picture old new none h = h
+leave_any may None None None (Some p) check drill trace picture old new none h = h
+leave_any may None None None None (Some c) drill trace picture old new none h = h
+leave_any may None None None None None (Some d) trace picture old new none h = h
+leave_any may None None None None None None (Some t) picture old new none h = h
+leave_any may None None None None None None None (Some v) old new none h = h
+leave_any may None None None None None None None None old new none h = h
 
 pub leaves_any : (may : ℕ → Type 0) (words : List (List ℕ)) (old new : Shown) → live_names words ≡ None
     → IfAsks words (λ command. Leaves (λ t. ⊥) command old new)
     → IfAsks words (λ command. Leaves may command old new)
 leaves_any may words old new none h =
     leave_any may (run_names words) (live_names words) (make_names words) (play_names words) (check_names words)
-    (drill_names words) (trace_names words) old new none h
+    (drill_names words) (trace_names words) (picture_names words) old new none h
 
 -- where all inputs are accepted, in a healthy world
 pub live_completes : (healthy : Type 0) (names : LiveNames) (shown : Shown) → healthy → (inputs : LiveInputs)

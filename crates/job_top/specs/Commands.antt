@@ -19,11 +19,12 @@ use Rattle.job_commands.specs.Run.{RunsWhole, RunsToLimit, RunsInOrder, outputs_
 use Rattle.job_commands.specs.Schedules.{AcceptsScheduleInputs, AcceptsCheckInputs, JudgesPlay, JudgesCheck, PlaysWhole}
 use Rattle.job_commands.specs.Schedules.{PlaysInOrder, FindsAll, FindsInOrder}
 use Rattle.job_commands.specs.Status.{AtOutputs, ComesAt, Completes, Stage, stage_of, stage_of_limit}
-use Rattle.job_commands.specs.Words.{Asked, Runs, Lives, Makes, Plays, Checks, Drills, Traces}
+use Rattle.job_commands.specs.Words.{Asked, Runs, Lives, Makes, Plays, Checks, Drills, Traces, Draws, pictured_run}
 use Rattle.job_top.specs.Drill.{AreAcceptedForDrill, DrillsInOrder, DrillsToLimit, DrillsWhole, JudgesDrill}
 use Rattle.job_top.specs.Drill.{drill_outputs}
 use Rattle.job_top.specs.Trace.{AreAcceptedForTrace, JudgesTrace, KeepsTraceNames, TracesInOrder, TracesToLimit}
 use Rattle.job_top.specs.Trace.{TracesWhole}
+use Rattle.job_top.specs.Picture.{DrawsInOrder, DrawsToLimit, DrawsWhole, KeepsPictureNames}
 use Rattle.job_top.specs.Live.{JudgesLive, KeepsLiveNames, LivesFiles, LivesLimit, LivesOrder, live_stage}
 
 -- the outputs have all that the command gives, where the clock may answer these times
@@ -35,6 +36,7 @@ Leaves may (Plays names) old new = PlaysWhole names old new
 Leaves may (Checks names) old new = FindsAll names old new
 Leaves may (Drills names) old new = DrillsWhole names old new
 Leaves may (Traces names) old new = TracesWhole names old new
+Leaves may (Draws names) old new = DrawsWhole names old new
 
 -- What the command leaves that stopped at this limit. Of `run` and `drill` the limits of runs come once their inputs
 -- are accepted; of `live` those of files and events may, too; of no other command one comes then.
@@ -46,6 +48,7 @@ StopsAtLimit (Plays names) limit old new = stage_of_limit limit ≡ AtOutputs �
 StopsAtLimit (Checks names) limit old new = stage_of_limit limit ≡ AtOutputs → ⊥
 StopsAtLimit (Drills names) limit old new = stage_of_limit limit ≡ AtOutputs → DrillsToLimit names limit old new
 StopsAtLimit (Traces names) limit old new = stage_of_limit limit ≡ AtOutputs → TracesToLimit names limit old new
+StopsAtLimit (Draws names) limit old new = stage_of_limit limit ≡ AtOutputs → DrawsToLimit names limit old new
 
 -- the stage at which a status of the command comes; a limit of `live` may be passed at any time
 abbrev pub stage_in : Asked → Status → Stage
@@ -56,6 +59,7 @@ stage_in (Plays names) status = stage_of status
 stage_in (Checks names) status = stage_of status
 stage_in (Drills names) status = stage_of status
 stage_in (Traces names) status = stage_of status
+stage_in (Draws names) status = stage_of status
 
 -- some first part of what the command gives was written, in its order
 abbrev pub LeavesInOrder : Asked → Shown → Shown → Type 0
@@ -66,6 +70,7 @@ LeavesInOrder (Plays names) old new = PlaysInOrder names old new
 LeavesInOrder (Checks names) old new = FindsInOrder names old new
 LeavesInOrder (Drills names) old new = DrillsInOrder names old new
 LeavesInOrder (Traces names) old new = TracesInOrder names old new
+LeavesInOrder (Draws names) old new = DrawsInOrder names old new
 
 -- what the status says of the input files, and of the run or of what is played, where the world may be healthy; `make`
 -- has no inputs
@@ -77,6 +82,7 @@ JudgesInputsOf healthy (Plays names) status shown = JudgesPlay healthy names sta
 JudgesInputsOf healthy (Checks names) status shown = JudgesCheck healthy names status shown
 JudgesInputsOf healthy (Drills names) status shown = JudgesDrill healthy names status shown
 JudgesInputsOf healthy (Traces names) status shown = JudgesTrace healthy names status shown
+JudgesInputsOf healthy (Draws names) status shown = Judges healthy (pictured_run names) status shown
 
 -- the inputs of the command are there, are accepted and pass no limit, and nor does the run of a script, the drill
 -- or the trace
@@ -88,6 +94,7 @@ AcceptsInputsOf (Plays names) shown = (inputs : ScheduleInputs) × AcceptsSchedu
 AcceptsInputsOf (Checks names) shown = (inputs : CheckInputs) × AcceptsCheckInputs names inputs shown
 AcceptsInputsOf (Drills names) shown = AreAcceptedForDrill names shown
 AcceptsInputsOf (Traces names) shown = AreAcceptedForTrace names shown
+AcceptsInputsOf (Draws names) shown = AreAccepted (pictured_run names) shown
 
 -- What a command comes to whose inputs are accepted: it is done, or memory ran out; or `live` names a limit, which a
 -- script of its plan passes; or `play` the first illegal move of the schedule, or `check` what it refutes.
@@ -99,6 +106,7 @@ CompletesAs (Plays names) status = Completes status ⊎ ((fault : PlayFault) × 
 CompletesAs (Checks names) status = Completes status ⊎ ((refutation : Refutation) × (status ≡ Refuted refutation))
 CompletesAs (Drills names) status = Completes status
 CompletesAs (Traces names) status = Completes status
+CompletesAs (Draws names) status = Completes status
 
 -- names that are no output of the command are as they were
 abbrev pub KeepsNames : Asked → Shown → Shown → Type 0
@@ -109,3 +117,4 @@ KeepsNames (Plays names) old new = (name : List ℕ) → ¬ (name ≡ names.out)
 KeepsNames (Checks names) old new = (name : List ℕ) → new.names name ≡ old.names name
 KeepsNames (Drills names) old new = KeepsOthers (drill_outputs names) old new
 KeepsNames (Traces names) old new = KeepsTraceNames names old new
+KeepsNames (Draws names) old new = KeepsPictureNames names old new

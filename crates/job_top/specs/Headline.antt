@@ -24,7 +24,7 @@ use Rattle.job_commands.specs.declared.live_inputs.LiveInputs.{LiveInputs}
 use Rattle.job_commands.specs.Live.{AcceptsLiveInputs}
 use Rattle.job_commands.specs.Run.{AcceptsInputs, outputs_of, setting_for}
 use Rattle.job_commands.specs.Words.{RunNames, LiveNames, DrillNames, Asked, Runs, Lives, Makes, Plays}
-use Rattle.job_commands.specs.Words.{Checks, Drills, Traces}
+use Rattle.job_commands.specs.Words.{Checks, Drills, Draws, Traces}
 use Rattle.job_top.specs.Drill.{AcceptsDrillInputs, drill_outputs, drill_setting}
 use Rattle.job_top.specs.Live.{live_outputs, live_setting}
 
@@ -84,3 +84,4 @@ KeepsPromiseOf (Plays names) old new = Unit {0}
 KeepsPromiseOf (Checks names) old new = Unit {0}
 KeepsPromiseOf (Drills names) old new = KeepsDrillPromise names old new
 KeepsPromiseOf (Traces names) old new = Unit {0}
+KeepsPromiseOf (Draws names) old new = Unit {0}

@@ -3,4 +3,5 @@ pub mod Commands
 pub mod Drill
 pub mod Headline
 pub mod Live
+pub mod Picture
 pub mod Trace

@@ -3,6 +3,7 @@
 
 mod drill;
 mod live;
+mod picture;
 mod top;
 mod trace;
 

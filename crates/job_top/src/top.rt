@@ -19,6 +19,7 @@ ghost use Rattle.world_io.specs.World.{Start, WritingFailed};
 
 use crate::drill::drill;
 use crate::live::live;
+use crate::picture::picture;
 use crate::trace::trace;
 use box_conf::BoxKind;
 use job_commands::{
@@ -177,6 +178,7 @@ pub fn serial<W: World>(alloc: Global, words: &[Text], world: &mut W) -> Status
         Some(Command::Check(names)) => check_released(alloc, world, names),
         Some(Command::Drill(names)) => drill(alloc, world, names),
         Some(Command::Trace(names)) => trace(alloc, world, names),
+        Some(Command::Picture(names)) => picture(alloc, world, names),
         Some(Command::Live(_)) => unreachable!(),
         None => Status::BadWords,
     }
@@ -220,6 +222,11 @@ pub fn serial<W: World>(alloc: Global, words: &[Text], world: &mut W) -> Status
 /// gets a heading and a line for each packet that was fed: which thread it went to, and what became of it. The report
 /// is the last line of that of `run`. TABLE is created when all is done; where the run would pass a limit, nothing is
 /// written.
+///
+/// `picture BOX CAPTURE SCRIPT PICTURE`, four names: the box is run on the capture by the events of the script, and
+/// PICTURE gets the picture of the run, with a mark for each move and for each released output, or, of a long run, an
+/// overview. The report is the last line of that of `run`. PICTURE is created when all is done; where the run would
+/// pass a limit, nothing is written.
 ///
 /// What the clauses say of bytes they say by each beginning, the bytes that stood under each name then, for which the
 /// world's answers were honest: those of files with these bytes.

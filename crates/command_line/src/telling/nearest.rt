@@ -6,11 +6,12 @@ use std::rt::Files;
 const LONGEST: usize = 10;
 
 /// The commands, and what stands behind each.
-const USAGE: [(&str, &str); 9] = [
+const USAGE: [(&str, &str); 10] = [
     ("run", "BOX CAPTURE SCRIPT RELEASED SCHEDULE"),
     ("live", "BOX CAPTURE PLAN RELEASED SCHEDULE SCRIPT"),
     ("drill", "BOX CAPTURE EVERY RELEASED SCHEDULE"),
     ("trace", "BOX CAPTURE SCRIPT TABLE"),
+    ("picture", "BOX CAPTURE SCRIPT PICTURE"),
     ("tap", "NAME [tap NAME] .. run .. or live .."),
     ("play", "BOX CAPTURE SCHEDULE OUT"),
     ("check", "BOX CAPTURE SCHEDULE RELEASED"),

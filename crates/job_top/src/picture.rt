@@ -1,0 +1,101 @@
+ghost use Rattle.std.specs.Prelude.{◌≡◌, ◌+◌, ◌<◌, ◌≤◌, ◌-◌, ◌^◌, Err, OnOk, IsErrOf};
+ghost use Rattle.plain_text.specs.declared.limit.Limit.{Limit as LimitKind};
+ghost use Rattle.world_io.specs.Stream.{Rose};
+ghost use Rattle.world_io.specs.World.{Start, WritingFailed};
+ghost use Rattle.input_files.specs.Files.{OpensAll, OpensFirst};
+ghost use Rattle.output_files.specs.Written.{WritesFiles};
+ghost use Rattle.run_writes.specs.Run.{CanRun, KeepsShown};
+ghost use Rattle.run_picture.specs.Picture.{HasBegunPicture, HasPictured, HasStopped};
+ghost use Rattle.job_commands.specs.Judging.{Judges};
+ghost use Rattle.job_commands.specs.Run.{script_of, setting_for};
+ghost use Rattle.job_commands.specs.Status.{AtInputs, AtOutputs, IsRefusal, stage_of};
+ghost use Rattle.job_commands.specs.Status.{stage_of_limit};
+ghost use Rattle.job_commands.specs.Words.{picture_names_of, pictured_run, run_inputs};
+ghost use Rattle.job_top.specs.Picture.{DrawsInOrder, DrawsToLimit, DrawsWhole};
+
+use box_conf::BoxKind;
+use job_commands::{Inputs, PictureWords, RunWords, Status, read_inputs, run_outcome};
+use plain_text::Text;
+use run_picture::run_picture;
+use run_writes::{RunError, ScriptRun};
+use std::alloc::Global;
+use world_io::World;
+
+/// Performs the run that the inputs ask for, and draws its picture under this name, with this title.
+fn draw_box<W: World>(
+    alloc: Global,
+    world: &mut W,
+    name: &Text,
+    title: &Text,
+    inputs: Inputs,
+) -> Result<(), RunError>
+    requires inputs { CanRun (script_of inputs) }
+    requires room { (W.ledger world.old).given < 2 ^ 32 - 1 }
+    ensures whole { (p : Start) → W.honest p world.new → OnOk result (HasPictured title.now
+        (setting_for inputs) inputs.events name.now (W.shows p world.old) (W.shows p world.new)) }
+    ensures limit { (p : Start) → W.honest p world.new → (limit : LimitKind)
+        → result ≡ Err (RunError.Limit limit) → HasStopped (setting_for inputs) inputs.events limit
+        (W.shows p world.old) (W.shows p world.new) }
+    ensures in_order { (p : Start) → W.honest p world.new → HasBegunPicture title.now
+        (setting_for inputs) inputs.events name.now (W.shows p world.old) (W.shows p world.new) }
+    ensures writes_files { WritesFiles W.ledger W.healthy 1 world.old world.new }
+    ensures cause { IsErrOf result RunError.WriteFault
+        → WritingFailed W.ledger W.healthy world.old world.new }
+    ensures before { (p : Start) → W.honest p world.new → W.honest p world.old }
+{
+    let run = ScriptRun {
+        threads: inputs.conf.threads,
+        seed: inputs.conf.seed,
+        unit: inputs.capture.unit,
+        packets: inputs.capture.packets,
+        events: inputs.events,
+    };
+    match inputs.conf.kind {
+        BoxKind::Count(count) => run_picture(alloc, world, name, title, run, count),
+        BoxKind::Monitor(monitor) => run_picture(alloc, world, name, title, run, monitor),
+        BoxKind::Nat(nat) => run_picture(alloc, world, name, title, run, nat),
+        BoxKind::Balancer(balancer) => run_picture(alloc, world, name, title, run, balancer),
+    }
+}
+
+/// The command `picture`: all input files are judged before the picture is created.
+pub(crate) fn picture<W: World>(alloc: Global, world: &mut W, names: PictureWords<'_>) -> Status
+    requires room { (W.ledger world.old).given < 2 ^ 31 }
+    ensures done { (p : Start) → W.honest p world.new → result ≡ Status.Done → DrawsWhole
+        (picture_names_of names.entry) (W.shows p world.old) (W.shows p world.new) }
+    ensures limit { (p : Start) → W.honest p world.new → (limit : LimitKind)
+        → result ≡ Status.TooLarge limit → stage_of_limit limit ≡ AtOutputs → DrawsToLimit
+        (picture_names_of names.entry) limit (W.shows p world.old) (W.shows p world.new) }
+    ensures judged { (p : Start) → W.honest p world.new → Judges (W.healthy world.old)
+        (pictured_run (picture_names_of names.entry)) result (W.shows p world.old) }
+    ensures in_order { (p : Start) → W.honest p world.new → DrawsInOrder
+        (picture_names_of names.entry) (W.shows p world.old) (W.shows p world.new) }
+    ensures refused { (p : Start) → W.honest p world.new → stage_of result ≡ AtInputs
+        → KeepsShown (W.shows p world.old) (W.shows p world.new) }
+    ensures creates_nothing { IsRefusal result
+        → (W.ledger world.new).created ≡ (W.ledger world.old).created }
+    ensures words { result ≡ Status.BadWords → ⊥ }
+    ensures opens_in_order { OpensFirst (run_inputs (pictured_run (picture_names_of names.entry)))
+        (W.ledger world.old) (W.ledger world.new) }
+    ensures opens_all { result ≡ Status.Done → OpensAll (run_inputs (pictured_run
+        (picture_names_of names.entry))) (W.ledger world.old) (W.ledger world.new) }
+    ensures given { (W.ledger world.new).given ≤ (W.ledger world.old).given + 4 }
+    ensures read_fault { result ≡ Status.ReadFault
+        → Rose (W.ledger world.old).read_faults (W.ledger world.new).read_faults }
+    ensures write_fault { result ≡ Status.WriteFault
+        → WritingFailed W.ledger W.healthy world.old world.new }
+    ensures before { (p : Start) → W.honest p world.new → W.honest p world.old }
+{
+    // The outputs of the run are not written: the picture stands for both.
+    let run = RunWords {
+        box_file: names.box_file,
+        capture: names.capture,
+        script: names.script,
+        released: names.picture,
+        schedule: names.picture,
+    };
+    match read_inputs(alloc, world, run) {
+        Ok(inputs) => run_outcome(draw_box(alloc, world, names.picture, names.box_file, inputs)),
+        Err(status) => status,
+    }
+}

@@ -1,0 +1,69 @@
+use box_program::{Local, Move, Program};
+use plain_text::{Bytes, NoMemory, Packet, Text};
+use std::alloc::Global;
+
+/// A box that is lent, so that a system can run it while others read it. It is the box itself.
+#[derive(Drop)]
+pub struct Lent<'a, P> {
+    pub program: &'a P,
+}
+
+impl<'a, P: Program> Program for Lent<'a, P> {
+    type Value = P::Value;
+
+    ghost meaning = { λ lent. P.meaning lent.program.now };
+
+    ghost fits = { λ lent. P.fits lent.program.now };
+
+    ghost lawful = { λ lent. P.lawful lent.program.now };
+
+    fn vars(&self) -> u32 {
+        self.program.vars()
+    }
+
+    fn fresh(&self, alloc: Global, var: u32) -> Result<P::Value, NoMemory> {
+        self.program.fresh(alloc, var)
+    }
+
+    fn begin(&self, packet: &Packet) -> Local {
+        self.program.begin(packet)
+    }
+
+    fn next(&self, local: &Local) -> Move {
+        self.program.next(local)
+    }
+
+    fn touch(
+        &self,
+        alloc: Global,
+        var: u32,
+        value: &mut P::Value,
+        local: &mut Local,
+    ) -> Result<(), NoMemory> {
+        self.program.touch(alloc, var, value, local)
+    }
+
+    fn look(&self, var: u32, value: &P::Value, local: &mut Local) {
+        self.program.look(var, value, local);
+    }
+
+    fn told(&self, answer: u64, local: &mut Local) {
+        self.program.told(answer, local);
+    }
+
+    fn emitted(&self, local: &mut Local) {
+        self.program.emitted(local);
+    }
+
+    fn packet_out(&self, alloc: Global, packet: &Packet, local: &Local) -> Result<Bytes, NoMemory> {
+        self.program.packet_out(alloc, packet, local)
+    }
+
+    fn copy_value(&self, alloc: Global, var: u32, value: &P::Value) -> Result<P::Value, NoMemory> {
+        self.program.copy_value(alloc, var, value)
+    }
+
+    fn show(&self, alloc: Global, var: u32, value: &P::Value) -> Result<Text, NoMemory> {
+        self.program.show(alloc, var, value)
+    }
+}

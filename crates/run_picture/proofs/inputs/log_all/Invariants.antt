@@ -1,0 +1,6 @@
+use Rattle.std.proofs.Common.{◌≡◌}
+use Rattle.run_picture.proofs.inputs.log_all.Given as goal
+
+-- the packets so far were fed
+abbrev pub invariant-loop-packet : goal.invariant-loop-packet
+invariant-loop-packet l = l.log ≡ record { threads = l.threads; packets = l.yielded }

@@ -1,0 +1,65 @@
+-- What the command `picture` leaves: the picture of a run, and the last line of the report of `run`.
+use Rattle.std.specs.Prelude.{◌≡◌, ◌⊎◌, ℕ, List, [], ◌∷◌, ◌++◌, Some}
+use Rattle.std.specs.List.{flat_map}
+use Rattle.plain_text.specs.declared.limit.Limit.{Limit}
+use Rattle.plain_text.specs.declared.packet.Packet.{Packet}
+use Rattle.world_io.specs.World.{Shown}
+use Rattle.recovery_world.specs.declared.event.Event.{Event}
+use Rattle.recovery_world.specs.World.{Setting, World as SystemWorld}
+use Rattle.recovery_world.specs.Files.{LeavesAt, done_line}
+use Rattle.output_files.specs.Writes.{report_file, Write, Creates, Appends, Reports, HasBegun}
+use Rattle.run_writes.specs.Run.{KeepsShown}
+use Rattle.svg_text.specs.Drawing.{drawing_text}
+use Rattle.svg_text.specs.WellFormed.{IsWellFormed}
+use Rattle.run_drawing.specs.declared.note.Note.{Note}
+use Rattle.run_drawing.specs.Noted.{Noted}
+use Rattle.run_drawing.specs.Picture.{at_first, events_from, picture}
+use Rattle.run_drawing.specs.Promises.{is_move, is_released, move_titles, release_titles, titles_where}
+
+-- the bytes of a picture with this title, and with this last line of the report, of so many threads
+unfoldable pub picture_text : List ℕ → List ℕ → ℕ → List Note → List ℕ
+picture_text title last threads notes = drawing_text (picture title last threads notes)
+
+-- The events lead to this world, and this is the picture of their run, with this title: it is drawn of what is noted of
+-- each event.
+pub record Pictures {V : Type 0} (title : List ℕ) (s : Setting V) (events : List Event) (w : SystemWorld V)
+    (text : List ℕ) : Type 0 where
+  pub notes : List Note
+  pub noted : Noted s events notes w
+  pub text_is : text ≡ picture_text title (done_line w) s.threads notes
+  -- it is well-formed, whatever its title and the lines of the report are
+  pub well_formed : IsWellFormed text
+  -- where it is drawn move by move, each move that was made has one mark, and each output that was released a full one
+  pub moves_marked : titles_where is_move (events_from s.threads at_first notes) ≡ flat_map move_titles notes
+  pub releases_marked : titles_where is_released (events_from s.threads at_first notes) ≡ release_titles 0 notes
+
+-- The writes: the picture, and then the report
+abbrev pub picture_writes : List ℕ → List ℕ → List ℕ → List Write
+picture_writes name text line = Creates name ∷ Appends name text ∷ Reports line ∷ []
+
+-- What a call leaves
+
+-- the picture stands under its name, the report has its line, and no other name is touched
+pub record HasPictured {V : Type 0} (title : List ℕ) (s : Setting V) (events : List Event) (name : List ℕ)
+    (old new : Shown) : Type 0 where
+  pub world : SystemWorld V
+  pub text : List ℕ
+  pub pictures : Pictures title s events world text
+  pub picture_is : new.names name ≡ Some text
+  pub report_is : new.sent report_file ≡ old.sent report_file ++ done_line world
+  pub others : (other : List ℕ) → ¬ (other ≡ name) → new.names other ≡ old.names other
+
+-- An event stops at this limit, and nothing was created or written.
+pub record HasStopped {V : Type 0} (s : Setting V) (events : List Event) (limit : Limit) (old new : Shown)
+    : Type 0 where
+  pub lines : List ℕ
+  pub released : List Packet
+  pub stops : LeavesAt s events limit lines released
+  pub kept : KeepsShown old new
+
+-- nothing was created or written, or some first part of what a picture writes, and nothing else
+abbrev pub HasBegunPicture : {V : Type 0} → List ℕ → Setting V → List Event → List ℕ → Shown → Shown → Type 0
+HasBegunPicture {V} title s events name old new =
+    KeepsShown old new
+    ⊎ ((w : SystemWorld V) × (text : List ℕ) × Pictures title s events w text
+    × HasBegun (picture_writes name text (done_line w)) old new)

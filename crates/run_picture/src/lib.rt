@@ -1,0 +1,11 @@
+//! The command `picture`: the events of a script are performed, it is noted what each of them did, and the picture of
+//! the run is drawn from the notes and written.
+#![tactic(auto)]
+
+mod inputs;
+mod noting;
+mod performing;
+mod picturing;
+mod running;
+
+pub use picturing::run_picture;
