@@ -11,9 +11,8 @@ ghost use Rattle.run_picture.specs.Picturing.{ComesTo, IsHalt, WritesPicture};
 
 use crate::inputs::log_all;
 use crate::running::{Gone, run_events};
-use box_program::Program;
+use box_program::{Lent, Program};
 use drill_report::copy_packets;
-use lent_box::Lent;
 use output_files::{OutputError, append, create, report};
 use plain_text::{Bytes, Limit, NoMemory, Text};
 use recovery_core::{Stop, System};

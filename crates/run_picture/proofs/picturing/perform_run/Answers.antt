@@ -2,7 +2,7 @@ use Rattle.std.proofs.Common.{◌∙◌, List, subst}
 use Rattle.std.specs.Prelude.{IfOk}
 use Rattle.recovery_world.specs.declared.event.Event.{Event}
 use Rattle.run_writes.specs.Run.{setting_of}
-use Rattle.lent_box.specs.declared.lent.Lent.{Lent}
+use Rattle.box_program.specs.declared.lent.Lent.{Lent}
 use Rattle.run_picture.specs.Going.{HasGone}
 use Rattle.run_picture.specs.Noting.{IsHalted}
 use Rattle.run_picture.proofs.Drawn.{all_fed, new_stands}
