@@ -1,7 +1,9 @@
 -- Packets are put behind those of a capture, one by one.
 use Rattle.std.proofs.Common.{◌≡◌, ℕ, ◌+◌, ◌<◌, false, List, [], ◌∷◌, ◌++◌, length, take, get_or, refl, sym, ap, ◌∙◌}
-use Rattle.std.proofs.Common.{subst, append_assoc}
-use Rattle.std.proofs.lemmas.List.{append-nil, map-append, take_more}
+use Rattle.std.proofs.Common.{subst, append_assoc, arith}
+use Rattle.std.specs.Prelude.{All}
+use Rattle.std.proofs.lemmas.List.{append-nil, get_or-map, length-map, map-append, take_more}
+use Rattle.plain_text.specs.Packets.{IsShort}
 use Rattle.plain_text.specs.declared.packet.Packet.{Packet}
 use Rattle.access_log.specs.declared.entry.Output.{Output}
 use Rattle.plain_machine.specs.Program.{Meaning}
@@ -9,6 +11,7 @@ use Rattle.recovery_world.specs.World.{Setting, World}
 use Rattle.longer_captures.specs.Longer.{with_more}
 use Rattle.system_parts.specs.Performing.{packets_in}
 use Rattle.recovery_core.specs.Systems.{Systemed, SystemStands}
+use Rattle.recovery_core.proofs.AppendedLemmas.{system_behind}
 use Rattle.chain_box.specs.Chains.{PassesOn}
 
 pub passes_none : {Q U : Type 0} (n : Meaning U) {y : Systemed Q U} → y.stopped ≡ false → PassesOn n [] y y
@@ -38,6 +41,29 @@ passes_next {Q} {U} meaning packets p old mid new before next = record {
   handed = next.handed ∙ before.handed;
   fresh = next.fresh ∙ before.fresh;
 }
+
+-- one packet, as a system appends it
+pub passes_one : {Q U : Type 0} (n : Meaning U) (p : Packet) (old new : Systemed Q U) → old.stopped ≡ false
+    → new ≡ system_behind old p
+    → ((r : Setting U) (w : World U) → SystemStands n r w old → SystemStands n (with_more r (p ∷ [])) w new)
+    → PassesOn n (p ∷ []) old new
+passes_one {Q} {U} n p old new runs is stands = record {
+  stands = stands;
+  program = ap (λ (y : Systemed Q U). y.parts.program) is;
+  runs = ap (λ (y : Systemed Q U). y.stopped) is ∙ runs;
+  handed = ap (λ (y : Systemed Q U). y.handed) is;
+  fresh = ap (λ (y : Systemed Q U). y.fresh) is;
+}
+
+-- the packet of an output among short ones is short
+pub short_at : (outputs : List Output) (i : ℕ) (o : Output) (p : Packet) → All IsShort (packets_in outputs)
+    → i < length outputs → o ≡ get_or outputs i o → p ≡ o.packet → IsShort p
+short_at outputs i o p all low is copied =
+    let many : length (packets_in outputs) ≡ length outputs = length-map outputs (λ (x : Output). x.packet) in
+    subst IsShort
+    (get_or-map (λ (x : Output). x.packet) outputs i o o.packet low
+    ∙ ap (λ (x : Output). x.packet) (sym is) ∙ sym copied)
+    (all i o.packet (omega (arith, low, many)))
 
 -- the packets of one more output
 pub one_more : (outputs : List Output) (i : ℕ) (o : Output) (p : Packet) → i < length outputs

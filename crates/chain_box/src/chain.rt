@@ -1,4 +1,5 @@
-ghost use Rattle.std.specs.Prelude.{◌≡◌, ◌⊎◌, List, [], All, IfOk, OnOk, OnErr, Err, true, false, drop, length};
+ghost use Rattle.std.specs.Prelude.{◌≡◌, ◌⊎◌, [], IfOk, OnOk, OnErr, Err, true, false, drop};
+ghost use Rattle.std.specs.Prelude.{length};
 ghost use Rattle.plain_text.specs.declared.limit.Limit.{Limit as LimitKind};
 ghost use Rattle.recovery_world.specs.World.{Setting};
 ghost use Rattle.recovery_world.specs.Files.{packets_of};
@@ -135,10 +136,8 @@ impl<P: Program, Q: Program> Chain<P, Q> {
             → ChainStands (P.meaning self.old.first.parts.program)
             (Q.meaning self.old.second.parts.program) s r c self.new.first self.new.second }
         ensures stopped { self.new.stopped ≡ self.old.stopped }
-        ensures first_program {
-            self.new.first.parts.program ≡ self.old.first.parts.program }
-        ensures second_program {
-            self.new.second.parts.program ≡ self.old.second.parts.program }
+        ensures first_program { self.new.first.parts.program ≡ self.old.first.parts.program }
+        ensures second_program { self.new.second.parts.program ≡ self.old.second.parts.program }
     {
         Passed {
             middle: self.first.take_released(),

@@ -64,14 +64,9 @@ fn perform_first<P: Program, Q: Program>(
     ensures second_appends { Appends second.old.fresh second.new.fresh }
 {
     let before = first.fresh().len();
-    let reply = match first.on(&event.event) {
-        Ok(reply) => reply,
-        Err(stop) => return Err(stop),
-    };
-    match pass_on(second, &first.fresh().as_slice()[before..]) {
-        Ok(()) => Ok(reply),
-        Err(NoMemory) => Err(Stop::NoMemory),
-    }
+    let reply = first.on(&event.event)?;
+    pass_on(second, &first.fresh().as_slice()[before..])?;
+    Ok(reply)
 }
 
 /// Performs an event of one of two systems.

@@ -100,7 +100,10 @@ fn perform_all<P: Program, Q: Program>(
 /// Appends the counts of one system at the end, and the moves of its schedule.
 fn put_end(report: &mut String, which: u64, end: &Finished) -> Result<(), NoMemory> {
     let (fed, epoch, released) = (end.fed, end.epoch, end.released);
-    write!(report, "{which} done fed {fed} epoch {epoch} released {released} moves")?;
+    write!(
+        report,
+        "{which} done fed {fed} epoch {epoch} released {released} moves"
+    )?;
     for plain in end.schedule.as_slice() {
         report.push(' ')?;
         put_decimal(report, u64::from(plain.thread))?;
@@ -157,7 +160,14 @@ fn open(alloc: Global, packets: Packets) -> Result<Chain<CountBox, CountBox>, No
     ensures { IfOk result (λ chain. chain.stopped ≡ false) }
 {
     let first = System::new(alloc, CountBox::new(), 1, 42, Unit::Micro, packets)?;
-    match System::new(alloc, CountBox::new(), 1, 42, Unit::Micro, Packets::new(alloc)) {
+    match System::new(
+        alloc,
+        CountBox::new(),
+        1,
+        42,
+        Unit::Micro,
+        Packets::new(alloc),
+    ) {
         Ok(second) => Ok(Chain::new(first, second)),
         Err(no_memory) => {
             first.discard();
