@@ -1,7 +1,7 @@
 -- Feeding: the world with more packets fed, and another time, is that of the system with them.
 use Rattle.std.proofs.Common.{◌≡◌, ℕ, suc, ◌+◌, ◌-◌, ◌≤◌, min, max, List, [], ◌∷◌, ◌++◌, All, length, take, drop}
-use Rattle.std.proofs.Common.{reverse, refl, sym, ap, ◌∙◌, subst, arith, append_assoc, length-drop, length-take}
-use Rattle.std.proofs.lemmas.List.{reverse-append, append-nil, drop-drop, length-append}
+use Rattle.std.proofs.Common.{refl, sym, ap, ◌∙◌, subst, arith, append_assoc, length-drop, length-take}
+use Rattle.std.proofs.lemmas.List.{append-nil, drop-drop, length-append}
 use Rattle.std.proofs.lemmas.List.Elements.{All-append, All-take, All-drop}
 use Rattle.std.proofs.Math.Seq.{take-add}
 use Rattle.plain_text.specs.Packets.{IsShort}
@@ -107,25 +107,23 @@ take_next {X} k xs p rest is = (
   sym (drop-drop 1 k xs) ∙ ap (λ (l : List X). drop 1 l) is,
 )
 
--- one more packet, where it is the last of a vector whose first is fed last
-pub feeds_next : {P V : Type 0} (k : ℕ) (old now next : Parts P V) (before after : List Packet) (p : Packet)
-    → now ≡ with_fed k old → now.left ≡ reverse before → before ≡ after ++ p ∷ []
-    → next ≡ record now { left = reverse after; inputs = next.inputs; clock = next.clock }
+-- one more packet, the first of those that are left
+pub feeds_next : {P V : Type 0} (k : ℕ) (old now next : Parts P V) (rest : List Packet) (p : Packet)
+    → now ≡ with_fed k old → now.left ≡ p ∷ rest
+    → next ≡ record now { left = rest; inputs = next.inputs; clock = next.clock }
     → next.inputs ≡ with_packet now.inputs p → next.clock ≡ max now.clock (microseconds now.fractions p)
     → next ≡ with_fed (k + 1) old
-feeds_next {P} {V} k old now next before after p is left popped same fed_is clock_is =
-    let first : drop k old.left ≡ p ∷ reverse after =
-    sym (ap (λ (y : Parts P V). y.left) is) ∙ left ∙ ap (λ (l : List Packet). reverse l) popped
-    ∙ reverse-append after (p ∷ []) in
-    let n = take_next k old.left p (reverse after) first in
+feeds_next {P} {V} k old now next rest p is left same fed_is clock_is =
+    let first : drop k old.left ≡ p ∷ rest = sym (ap (λ (y : Parts P V). y.left) is) ∙ left in
+    let n = take_next k old.left p rest first in
     let fed : now.inputs ≡ record old.inputs { packets = old.inputs.packets ++ take k old.left } =
     ap (λ (y : Parts P V). y.inputs) is in
     let clock : now.clock ≡ time_after old.fractions old.clock (take k old.left) = ap (λ (y : Parts P V). y.clock) is in
     same
-    ∙ ap (λ (f : Fed). record now { left = reverse after; inputs = f; clock = next.clock }) fed_is
-    ∙ ap (λ (j : ℕ). record now { left = reverse after; inputs = with_packet now.inputs p; clock = j }) clock_is
+    ∙ ap (λ (f : Fed). record now { left = rest; inputs = f; clock = next.clock }) fed_is
+    ∙ ap (λ (j : ℕ). record now { left = rest; inputs = with_packet now.inputs p; clock = j }) clock_is
     ∙ ap (λ (y : Parts P V). record y {
-      left = reverse after;
+      left = rest;
       inputs = with_packet y.inputs p;
       clock = max y.clock (microseconds y.fractions p);
     }) is
@@ -150,13 +148,11 @@ feeds_next {P} {V} k old now next before after p is left popped same fed_is cloc
     ∙ ap (λ (l : List Packet). time_after old.fractions old.clock l) (sym n.0))
 
 -- and there was one to be fed
-pub more_left : {P V : Type 0} (k : ℕ) (old now : Parts P V) (before after : List Packet) (p : Packet)
-    → now ≡ with_fed k old → now.left ≡ reverse before → before ≡ after ++ p ∷ [] → k + 1 ≤ length old.left
-more_left {P} {V} k old now before after p is left popped =
-    let first : drop k old.left ≡ p ∷ reverse after =
-    sym (ap (λ (y : Parts P V). y.left) is) ∙ left ∙ ap (λ (l : List Packet). reverse l) popped
-    ∙ reverse-append after (p ∷ []) in
-    let n : length (drop k old.left) ≡ suc (length (reverse after)) = ap length first in
+pub more_left : {P V : Type 0} (k : ℕ) (old now : Parts P V) (rest : List Packet) (p : Packet) → now ≡ with_fed k old
+    → now.left ≡ p ∷ rest → k + 1 ≤ length old.left
+more_left {P} {V} k old now rest p is left =
+    let first : drop k old.left ≡ p ∷ rest = sym (ap (λ (y : Parts P V). y.left) is) ∙ left in
+    let n : length (drop k old.left) ≡ suc (length rest) = ap length first in
     let d = length-drop k old.left in
     omega (arith, n, d)
 
@@ -289,13 +285,13 @@ fed_are_parts {P} {V} mean fits k old now is are =
 
 -- the same, where one more packet was taken, and not fed
 pub popped_are_parts : {P V : Type 0} (mean : P → Meaning V) (fits : P → ℕ → V → Type 0) (k : ℕ)
-    (old now next : Parts P V) (before after : List Packet) (p : Packet) (clock : ℕ) → now ≡ with_fed k old
-    → now.left ≡ reverse before → before ≡ after ++ p ∷ []
-    → next ≡ record now { left = reverse after; inputs = next.inputs; clock = clock } → next.inputs ≡ now.inputs
+    (old now next : Parts P V) (rest : List Packet) (p : Packet) (clock : ℕ) → now ≡ with_fed k old
+    → now.left ≡ p ∷ rest → next ≡ record now { left = rest; inputs = next.inputs; clock = clock }
+    → next.inputs ≡ now.inputs
     → AreParts (mean old.program) (fits old.program) old → AreParts (mean next.program) (fits next.program) next
-popped_are_parts {P} {V} mean fits k old now next before after p clock is left popped moved same old_are =
+popped_are_parts {P} {V} mean fits k old now next rest p clock is left moved same old_are =
     subst (λ (q : Parts P V). AreParts (mean q.program) (fits q.program) q)
-    (sym (moved ∙ ap (λ (f : Fed). record now { left = reverse after; inputs = f; clock = clock }) same)) (record {
+    (sym (moved ∙ ap (λ (f : Fed). record now { left = rest; inputs = f; clock = clock }) same)) (record {
       fits = are.fits;
       some_threads = are.some_threads;
       few_threads = are.few_threads;
@@ -307,10 +303,9 @@ popped_are_parts {P} {V} mean fits k old now next before after p clock is left p
       stored = are.stored;
       copied = are.copied;
       few_packets =
-          let a : length now.left ≡ length (p ∷ reverse after) =
-          ap length (left ∙ ap (λ (l : List Packet). reverse l) popped ∙ reverse-append after (p ∷ [])) in
+          let a : length now.left ≡ length (p ∷ rest) = ap length left in
           let few = are.few_packets in omega (arith, a, few);
-      left = All-drop IsShort 1 (p ∷ reverse after) short;
+      left = All-drop IsShort 1 (p ∷ rest) (subst (λ (l : List Packet). All IsShort l) left are.left);
       fed = are.fed;
       moves = are.moves;
       bytes = are.bytes;
@@ -318,10 +313,6 @@ popped_are_parts {P} {V} mean fits k old now next before after p clock is left p
   where
     are : AreParts (mean now.program) (fits now.program) now
     are = fed_are_parts mean fits k old now is old_are
-
-    short : All IsShort (p ∷ reverse after)
-    short = subst (λ (l : List Packet). All IsShort l)
-        (left ∙ ap (λ (l : List Packet). reverse l) popped ∙ reverse-append after (p ∷ [])) are.left
 
 -- The loop is over: of the packets that were left, as many are fed as were asked for, or all.
 pub record FedAll {P V : Type 0} (n : ℕ) (old new : Parts P V) : Type 0 where
@@ -333,24 +324,18 @@ pub fed_whole : {P V : Type 0} (n k : ℕ) {now old : Parts P V} → now ≡ wit
     → n ≤ k → FedAll n old now
 fed_whole n k {now} {old} is within low high = record { count = k; is = is; few = omega (arith, within, low, high) }
 
-pub fed_until : {P V : Type 0} (n k : ℕ) {now old : Parts P V} (next : Parts P V) (before after : List Packet)
-    → now ≡ with_fed k old → k ≤ length old.left → k ≤ n → now.left ≡ reverse before → before ≡ after ++ [] → after ≡ []
-    → next ≡ record now { left = reverse after } → FedAll n old next
-fed_until {P} {V} n k {now} {old} next before after is within low left same none moved = record {
+pub fed_until : {P V : Type 0} (n k : ℕ) {now old : Parts P V} (next : Parts P V) (left : List Packet)
+    → now ≡ with_fed k old → k ≤ length old.left → k ≤ n → length now.left ≡ 0 → now.left ≡ left
+    → next ≡ record now { left = left } → FedAll n old next
+fed_until {P} {V} n k {now} {old} next left is within low none same moved = record {
   count = k;
-  is = moved ∙ ap (λ (l : List Packet). record now { left = l }) (empty ∙ sym gone) ∙ is;
+  is = moved ∙ ap (λ (l : List Packet). record now { left = l }) (sym same) ∙ is;
   few = omega (arith, within, low, all);
 }
   where
-    empty : reverse after ≡ []
-    empty = ap (λ (l : List Packet). reverse l) none
-
-    gone : now.left ≡ []
-    gone = left ∙ ap (λ (l : List Packet). reverse l) (same ∙ append-nil after ∙ none)
-
     all : length old.left ≤ k
     all =
-        let d : length (drop k old.left) ≡ 0 = ap (λ (y : Parts P V). length y.left) (sym is) ∙ ap length gone in
+        let d : length (drop k old.left) ≡ 0 = ap (λ (y : Parts P V). length y.left) (sym is) ∙ none in
         let e = length-drop k old.left in
         omega (arith, d, e)
 

@@ -26,7 +26,7 @@ pub fn feed<P: Program>(core: &mut Core<P>, n: u64) -> Result<Outcome, NoMemory>
         MovesOn (P.meaning core.old.program) (ComesTo (event_is.Feed n) to) core.old core.new) }
 {
     'packets: for _ in 0..n {
-        let Some(packet) = core.left.pop() else {
+        let Some(packet) = core.left.pop_front() else {
             break;
         };
         core.clock = core.clock.max(microseconds(core.unit, &packet));

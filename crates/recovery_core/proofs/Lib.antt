@@ -1,3 +1,4 @@
+pub mod AppendedLemmas
 pub mod RepliesLemmas
 pub mod FinishLemmas
 pub mod LackingLemmas

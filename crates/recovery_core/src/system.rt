@@ -1,5 +1,6 @@
-ghost use Rattle.std.specs.Prelude.{◌≡◌, ◌<◌, ◌≤◌, ℕ, All, List, [], IfOk, OnOk, OnErr, Err, true};
-ghost use Rattle.std.specs.Prelude.{false, drop, length};
+ghost use Rattle.std.specs.Prelude.{◌≡◌, ◌<◌, ◌≤◌, ◌↔◌, ◌+◌, ◌++◌, ◌∷◌, ℕ, All, List, [], IfOk};
+ghost use Rattle.std.specs.Prelude.{OnOk, OnErr, Err, IsTrue, true, false, drop, length};
+ghost use Rattle.longer_captures.specs.Longer.{with_more};
 ghost use Rattle.plain_text.specs.Packets.{IsShort};
 ghost use Rattle.plain_text.specs.declared.limit.Limit.{Limit as LimitKind};
 ghost use Rattle.plain_text.specs.declared.packet.Packet as packet_of;
@@ -19,8 +20,9 @@ use box_program::Program;
 use crash_recovery::wake;
 use event_replies::{Finished, Releases, Reply, Stop, only};
 use master_core::Counts;
+use packet_feeds::append;
 use plain_machine::Schedule;
-use plain_text::{NoMemory, Packets, Unit};
+use plain_text::{MOST_PACKETS, NoMemory, Packet, Packets, Unit};
 use recovery_world::Event;
 use several_events::{begin, perform_several};
 use single_events::perform_single;
@@ -148,6 +150,7 @@ impl<P: Program> System<P> {
         ensures stops { OnErr result (self.new.stopped ≡ true) }
         ensures no_memory { result ≡ Err Stop.NoMemory
             → (self.new.fresh ≡ self.old.fresh) × (self.new.handed ≡ self.old.handed) }
+        ensures appends { Appends self.old.fresh self.new.fresh }
     {
         let before = self.fresh.len();
         let done = perform(&mut self.core, *event, &mut self.fresh);
@@ -158,6 +161,40 @@ impl<P: Program> System<P> {
             }
         }
         done
+    }
+
+    /// Puts a packet behind those of the capture, and all else stays. After `NoMemory` this packet is not there, and
+    /// the system can go on.
+    pub fn append(&mut self, packet: Packet) -> Result<(), NoMemory>
+        requires runs { self.old.stopped ≡ false }
+        requires short { IsShort packet }
+        requires room { length self.old.parts.inputs.packets + length self.old.parts.left
+            < MOST_PACKETS }
+        ensures ok { OnOk result (self.new ≡ record self.old {
+          parts = record self.old.parts {
+            left = self.old.parts.left ++ packet ∷ [];
+          };
+        }) }
+        ensures stands { OnOk result ((s : Setting P.Value) (w : World P.Value)
+            → SystemStands (P.meaning self.old.parts.program) s w self.old
+            → SystemStands (P.meaning self.old.parts.program) (with_more s (packet ∷ [])) w
+            self.new) }
+        ensures err { OnErr result (self.new ≡ self.old) }
+    {
+        append(&mut self.core, packet)
+    }
+
+    /// The allocator by which its lists grow.
+    pub fn alloc(&self) -> Global {
+        self.core.alloc
+    }
+
+    /// Whether another packet can be put behind those of the capture: a capture has at most `MOST_PACKETS`.
+    pub fn has_room(&self) -> bool
+        ensures { IsTrue result ↔ (length self.now.parts.inputs.packets
+            + length self.now.parts.left < MOST_PACKETS) }
+    {
+        self.core.inputs.fed() + (self.core.left.len() as u64) < u64::from(MOST_PACKETS)
     }
 
     /// Whether an event did not end, so that no other can be performed.
@@ -182,6 +219,13 @@ impl<P: Program> System<P> {
     {
         self.handed = self.core.released.len();
         mem::replace(&mut self.fresh, Outputs::new(self.core.alloc))
+    }
+
+    /// The outputs that were released and not handed over yet, in order of release.
+    pub fn fresh(&self) -> &Outputs
+        ensures { result.now ≡ self.now.fresh }
+    {
+        &self.fresh
     }
 
     /// The thread and number of each output that was released, in order of release.

@@ -16,6 +16,7 @@ use replay_guide::Guide;
 use sent_frames::SentFrames;
 use snapshot_store::Store;
 use std::alloc::Global;
+use std::collections::VecDeque;
 use system_parts::Core;
 
 /// More packets than this are taken for more than memory has.
@@ -50,8 +51,7 @@ pub fn open_parts<P: Program>(
     let logger = OutputLogger::new(alloc, threads)?;
     let master = Master::fresh(alloc, &program, threads)?;
     let store = Store::new(alloc, &program, threads)?;
-    let mut left = packets.into_vec();
-    left.reverse();
+    let left = VecDeque::from_vec(packets.into_vec());
     Ok(Core {
         alloc,
         program,

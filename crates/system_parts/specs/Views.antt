@@ -1,16 +1,15 @@
 -- What the parts of a system show.
-use Rattle.std.specs.Prelude.{reverse}
 use Rattle.system_parts.specs.declared.assembly.Core.TheInside.{Inside}
 use Rattle.system_parts.specs.Parts.{Parts}
 
--- the packets that are not fed yet in the order in which they come; the rest as it is
+-- each part as it is, and of lists their elements
 abbrev pub parts_in : {P V : Type 0} → Inside P V → Parts P V
 parts_in y = record {
   program = y.program;
   fractions = y.unit;
   clock = y.clock;
   generator = y.generator;
-  left = reverse y.left.items;
+  left = y.left.items;
   inputs = y.inputs;
   up = y.up;
   master = y.master;

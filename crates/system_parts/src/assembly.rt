@@ -10,6 +10,7 @@ use replay_guide::Guide;
 use sent_frames::SentFrames;
 use snapshot_store::Store;
 use std::alloc::Global;
+use std::collections::VecDeque;
 use std::marker::Model;
 
 /// The parts of a system, put together.
@@ -24,8 +25,8 @@ pub struct Core<P: Program> {
     pub clock: u64,
     /// The generator of random words, as it is after those that were drawn.
     pub generator: Pcg32,
-    /// The packets of the capture that are not fed yet, the next one last.
-    pub left: Vec<Packet>,
+    /// The packets of the capture that are not fed yet, in order.
+    pub left: VecDeque<Packet>,
     /// The packets that were fed, by the thread to which each was steered. It survives a crash.
     pub inputs: InputLog,
     /// Whether the master is up. The one that crashed stays until there is a new one.

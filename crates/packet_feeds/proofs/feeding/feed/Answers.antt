@@ -1,4 +1,4 @@
-use Rattle.std.proofs.Common.{◌≡◌, ℕ, ◌-◌, [], refl, sym, ap, ◌∙◌, subst, arith, max, take}
+use Rattle.std.proofs.Common.{refl, sym, ap, ◌∙◌, subst, arith, max}
 use Rattle.system_parts.specs.Parts.{AreParts}
 use Rattle.system_parts.specs.Views.{parts_in}
 use Rattle.packet_feeds.proofs.FeedLemmas.{feeds_next, more_left, fed_none, fed_are_parts, popped_are_parts, FedAll}
@@ -12,18 +12,17 @@ packets-init g c = record { within = omega arith; fed = fed_none c.core.view_is 
 pub invariant_of-core : goal.invariant_of-core
 invariant_of-core g c =
     popped_are_parts g.P.Program.meaning g.P.Program.fits c.packets.counter c.args.core.now
-    (parts_in c.packets.core-inside) _ c.packets.core-inside.left.items c.pop.new.self.items c.in-Some.packet
-    c.max-core-inside.result c.packets.invariant.fed refl c.in-Some.ensures.items refl c.in_err-feed.ensures.err
+    (parts_in c.packets.core-inside) _ c.pop_front.new.self.items c.in-Some.packet c.max-core-inside.result
+    c.packets.invariant.fed c.in-Some.ensures.items refl c.in_err-feed.ensures.err
     (subst (λ q. AreParts (g.P.Program.meaning q.program) (g.P.Program.fits q.program) q) c.core.view_is
     c.core.invariant)
 
 pub packets-preserved : goal.packets-preserved
 packets-preserved g c = record {
-  within = more_left c.packets.counter c.args.core.now (parts_in c.packets.core-inside) c.packets.core-inside.left.items
-      c.pop.new.self.items c.in-Some.packet c.packets.invariant.fed refl c.in-Some.ensures.items;
-  fed = feeds_next c.packets.counter c.args.core.now (parts_in c.packets.core-inside) _ c.packets.core-inside.left.items
-      c.pop.new.self.items c.in-Some.packet c.packets.invariant.fed refl c.in-Some.ensures.items refl
-      c.in_ok-feed.ensures.ok
+  within = more_left c.packets.counter c.args.core.now (parts_in c.packets.core-inside) c.pop_front.new.self.items
+      c.in-Some.packet c.packets.invariant.fed c.in-Some.ensures.items;
+  fed = feeds_next c.packets.counter c.args.core.now (parts_in c.packets.core-inside) _ c.pop_front.new.self.items
+      c.in-Some.packet c.packets.invariant.fed c.in-Some.ensures.items refl c.in_ok-feed.ensures.ok
       (c.max-core-inside.ensures ∙ ap (λ k. max c.packets.core-inside.clock k) c.microseconds.ensures);
 }
 
@@ -35,11 +34,10 @@ ended g c = elim c.packets-test.branch [
       (fed_whole c.args.n c.packets.counter c.packets.invariant.fed c.packets.invariant.within
       c.packets.auto.counter-end w.packets-test.false)
   | then-packets-test+in_default w ↦
-      let none : w.pop.new.self.items ≡ [] =
-      w.pop.ensures.rest ∙ ap (λ (k : ℕ). take (k - 1) c.packets.core-inside.left.items) w.in_default.ensures.cases.0 in
+      let none = sym c.packets.core-inside.left.ok.0 ∙ w.in_default.ensures.cases.0 in
       subst (λ i. FedAll c.args.n c.args.core.now (parts_in i)) (sym w.core-inside-is) (fed_until c.args.n
-      c.packets.counter _ c.packets.core-inside.left.items w.pop.new.self.items c.packets.invariant.fed
-      c.packets.invariant.within c.packets.auto.counter-end refl w.in_default.ensures.items none refl)
+      c.packets.counter _ w.pop_front.new.self.items c.packets.invariant.fed c.packets.invariant.within
+      c.packets.auto.counter-end none w.in_default.ensures.items refl)
 ]
 
 pub invariant_of-core-2 : goal.invariant_of-core-2

@@ -1,5 +1,4 @@
 use Rattle.std.proofs.Common.{◌∙◌, ap, length, sym, subst, false, arith}
-use Rattle.std.proofs.lemmas.List.{length-reverse}
 use Rattle.recovery_world.specs.declared.event.Event.TheVariants as event
 use Rattle.several_events.specs.declared.progress.Progress.TheVariants as progress
 use Rattle.several_events.specs.Progressing.{IsNext}
@@ -14,6 +13,5 @@ returns-in-Wakes-clause-next g c =
     let m = g.P.Program.meaning c.args.core.now.program in
     subst (λ at. IsNext m c.args.core.now at event.Recover (progress.Steps c.len.result 0 false)) (sym c.in-Wakes.is)
     (next_wake m c.args.core.now c.len.result
-    (c.len.ensures
-    ∙ (c.core.inside.left.ok.0 ∙ sym (length-reverse c.core.inside.left.items))
-    ∙ ap (λ y. length y.left) c.core.view_is) (omega (arith, now, some)) (omega (arith, now, few)))
+    (c.len.ensures ∙ c.core.inside.left.ok.0 ∙ ap (λ y. length y.left) c.core.view_is)
+    (omega (arith, now, some)) (omega (arith, now, few)))

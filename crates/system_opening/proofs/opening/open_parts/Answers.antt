@@ -1,5 +1,4 @@
-use Rattle.std.proofs.Common.{arith, refl, ap, ◌∙◌, reverse}
-use Rattle.std.proofs.lemmas.List.{reverse-reverse}
+use Rattle.std.proofs.Common.{arith, refl, ◌∙◌}
 use Rattle.system_opening.proofs.OpeningLemmas.{opening_stands, opening_are_parts}
 use Rattle.system_opening.proofs.opening.open_parts.Goals as goal
 
@@ -7,7 +6,7 @@ pub invariant_of-result : goal.invariant_of-result
 invariant_of-result g c =
     opening_are_parts (g.P.Program.meaning c.args.program) (g.P.Program.fits c.args.program) c.args.threads
     c.args.packets _ c.requires.some_threads c.requires.few_threads c.requires.short c.in_ok-master.ensures.fits
-    (ap reverse c.reverse.ensures.items ∙ reverse-reverse c.into_vec-left.result.items ∙ c.into_vec-left.ensures)
+    (c.from_vec-left.ensures.items ∙ c.into_vec.ensures)
     c.in_ok-inputs.ensures c.in_ok-master.ensures.stands refl refl c.in_ok-sent.ensures c.in_ok-logger.ensures (record {
       stands = c.in_ok-store.ensures.fresh;
       moves = c.in_ok-store.ensures.moves;
@@ -18,7 +17,7 @@ pub returns-clause-stands : goal.returns-clause-stands
 returns-clause-stands g c =
     opening_stands (g.P.Program.meaning c.args.program) c.args.threads c.args.seed c.args.unit c.args.packets _
     refl refl c.generator.ensures.fresh
-    (ap reverse c.reverse.ensures.items ∙ reverse-reverse c.into_vec-left.result.items ∙ c.into_vec-left.ensures)
+    (c.from_vec-left.ensures.items ∙ c.into_vec.ensures)
     c.in_ok-inputs.ensures refl
     c.in_ok-master.ensures.stands
     c.new-5.ensures c.none.ensures
