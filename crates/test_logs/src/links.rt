@@ -16,30 +16,27 @@ const SECOND: Numbers = (1, Kind::Log, 0, 2);
 
 const NEXT_EPOCH: Numbers = (2, Kind::Out, 1, 1);
 
-/// A touch that is told apart by its variable.
-fn marked(mark: u32) -> StampedEntry
+/// An entry that is told apart by the time that it was told.
+fn marked(mark: u64) -> StampedEntry
     ensures { CanPutEntry 1 1 result }
 {
     StampedEntry {
         thread: 0,
         number: 1,
-        what: What::Access {
-            var: mark,
-            place: 1,
-        },
+        what: What::Clock(mark),
         stamp: one_component(1),
     }
 }
 
-/// Sends the frame of the touch with this mark under these numbers.
-fn send(alloc: Global, links: &mut Links, under: Numbers, mark: u32) -> Result<(), NoMemory> {
+/// Sends the frame of the entry with this mark under these numbers.
+fn send(alloc: Global, links: &mut Links, under: Numbers, mark: u64) -> Result<(), NoMemory> {
     let (epoch, kind, thread, number) = under;
     let frame = put_entry(alloc, 1, 1, &marked(mark))?;
     links.send(epoch, kind, thread, number, frame)
 }
 
 /// The mark of the frame under these numbers.
-fn mark_under(alloc: Global, links: &Links, under: Numbers) -> Result<Option<u32>, NoMemory> {
+fn mark_under(alloc: Global, links: &Links, under: Numbers) -> Result<Option<u64>, NoMemory> {
     let (epoch, kind, thread, number) = under;
     let Some(frame) = links.fetch(epoch, kind, thread, number) else {
         return Ok(None);
@@ -48,13 +45,13 @@ fn mark_under(alloc: Global, links: &Links, under: Numbers) -> Result<Option<u32
         return Ok(None);
     };
     match entry.what {
-        What::Access { var, .. } => Ok(Some(var)),
+        What::Clock(mark) => Ok(Some(mark)),
         _ => Ok(None),
     }
 }
 
 /// The marks under the three numbers.
-fn marks(alloc: Global, links: &Links) -> Result<[Option<u32>; 3], NoMemory> {
+fn marks(alloc: Global, links: &Links) -> Result<[Option<u64>; 3], NoMemory> {
     Ok([
         mark_under(alloc, links, FIRST)?,
         mark_under(alloc, links, SECOND)?,
