@@ -22,6 +22,7 @@ use Rattle.nat_tables.proofs.Counting.{total_refresh, total_without, total_witho
 use Rattle.flow_boxes.proofs.Summing.{one_changes, sum_of_none}
 use Rattle.nat_tables.specs.declared.entries.Endpoint.{Endpoint}
 use Rattle.nat_tables.specs.declared.slot.Slot.{Slot}
+use Rattle.nat_tables.specs.declared.phase.Phase.TheVariants.{Plain}
 use Rattle.balancer_box.specs.declared.place.Place.{Place}
 use Rattle.balancer_box.specs.declared.place.Place.TheVariants.{HearsTime, FindsConnection, LowersIdle, RaisesLeast}
 use Rattle.balancer_box.specs.declared.place.Place.TheVariants.{Connects, LowersSpare, ChecksConnection, CountsDrop}
@@ -188,7 +189,8 @@ module _ (i : ℕ) (n : Noted) (es : Forwards) where
       ≡ total (of_backend i) es + one_if (n.backend == i))
   bound_even (Some slot) at = let a = total_refresh (of_backend i) n.client n.time es in omega arith
   bound_even None at =
-      let a = total_append (of_backend i) n.client (record { port = n.backend; last = n.time }) es in omega arith
+      let a = total_append (of_backend i) n.client (record { port = n.backend; last = n.time; phase = Plain }) es in
+      omega arith
 
   live_even : (slot : Slot) → slot_of n.client es ≡ Some slot → slot.port ≡ n.backend
       → total (of_backend i) (without_if n.resets n.client es)

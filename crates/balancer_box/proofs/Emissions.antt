@@ -29,6 +29,7 @@ use Rattle.flow_boxes.proofs.Fitting.{IsWhole, whole, same_self}
 use Rattle.flow_boxes.proofs.HeldInputs.{IsHeld, move_holds, run_holds}
 use Rattle.nat_tables.specs.declared.entries.Endpoint.{Endpoint}
 use Rattle.nat_tables.specs.declared.slot.Slot.{Slot}
+use Rattle.nat_tables.specs.declared.phase.Phase.TheVariants.{Plain}
 use Rattle.balancer_box.specs.declared.place.Place.{Place}
 use Rattle.balancer_box.specs.declared.place.Place.TheVariants.{HearsTime, FindsConnection, LowersIdle, RaisesLeast}
 use Rattle.balancer_box.specs.declared.place.Place.TheVariants.{Connects, LowersSpare, ChecksConnection, CountsDrop}
@@ -179,7 +180,7 @@ module _ (s : Settings) (p : Packet) where
         (left, refreshed n.time slot, refl, slot_refreshed n.client n.time slot es at, refl) in
         (client_on n m class refl refl refl base, subst (IsSettled t m) (sym class) was)
     bound_known q None at =
-        let slot : Slot = record { port = n.backend; last = n.time } in
+        let slot : Slot = record { port = n.backend; last = n.time; phase = Plain } in
         let left : Forwards = es ++ (n.client, slot) ∷ [] in
         let t : Trail = after_touch (Connected es) (Connected left) r in
         let was : WasConnected (naming t n.resets) n.client n.backend =

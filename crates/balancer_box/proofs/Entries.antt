@@ -14,6 +14,7 @@ use Rattle.nat_tables.specs.Forwards.{found_there, found, bound, lives, Misses, 
 use Rattle.nat_tables.proofs.Counting.{same_is}
 use Rattle.nat_tables.specs.declared.entries.Endpoint.{Endpoint}
 use Rattle.nat_tables.specs.declared.slot.Slot.{Slot}
+use Rattle.nat_tables.specs.declared.phase.Phase.TheVariants.{Plain}
 use Rattle.balancer_box.specs.declared.place.Place.{Place}
 use Rattle.balancer_box.specs.declared.place.Place.TheVariants.{HearsTime, FindsConnection, LowersIdle, RaisesLeast}
 use Rattle.balancer_box.specs.declared.place.Place.TheVariants.{Connects, LowersSpare, ChecksConnection, CountsDrop}
@@ -50,7 +51,7 @@ kept_refresh key now (e ∷ es) client slot is =
     by false true p q is rest = rw (p, q) (kept_if slot (Some e.1) is)
     by false false p q is rest = rw (p, q) (rest is)
 
-module _ (May : Endpoint → ℕ → Type 0) where
+module _ (May : Endpoint → Slot → Type 0) where
   -- behind a connection of a client there is no other one of this client
   gone : (client : Endpoint) (e : Endpoint × Slot) (es : Forwards) → same_endpoint client e.0 ≡ true → Misses es e.0
       → slot_of client es ≡ None
@@ -122,7 +123,7 @@ module _ (May : Endpoint → ℕ → Type 0) where
   kept_bound : (key : Endpoint) (backend now : ℕ) (es : Forwards) (a : Option Slot)
       → AreKept es (bound key backend now es a).1
   kept_bound key backend now es (Some slot) = kept_refresh key now es
-  kept_bound key backend now es None = kept_append es ((key, record { port = backend; last = now }) ∷ [])
+  kept_bound key backend now es None = kept_append es ((key, record { port = backend; last = now; phase = Plain }) ∷ [])
 
 kept_touch : (s : Settings) (p : Place) (x : BalancerValue) (n : Noted) (v : ℕ) → Fits s v x
     → AreKept (connections_in x) (connections_in (touched p x n).0)

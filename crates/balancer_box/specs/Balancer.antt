@@ -10,6 +10,8 @@ use Rattle.plain_machine.specs.declared.local.Local.{Local}
 use Rattle.plain_machine.specs.declared.local.Move.{Move}
 use Rattle.plain_machine.specs.declared.local.Move.TheVariants.{Access, Clock, Emit, End}
 use Rattle.plain_machine.specs.Program.{Meaning}
+use Rattle.nat_tables.specs.declared.slot.Slot.{Slot}
+use Rattle.nat_tables.specs.declared.phase.Phase.TheVariants.{Plain}
 use Rattle.nat_tables.specs.declared.entries.Endpoint.{Endpoint}
 use Rattle.nat_tables.specs.declared.entries.Find.{Find}
 use Rattle.nat_tables.specs.declared.entries.Find.TheVariants.{Live, Absent}
@@ -237,8 +239,10 @@ balancer_meaning s = record {
 -- Each variable has a value of its kind: a load of each backend, and in a connection table connections that stand by
 -- their clients, each of a backend that is there, and no client's twice.
 
-abbrev pub MayConnect : Settings → ℕ → Endpoint → ℕ → Type 0
-MayConnect s v client backend = (v ≡ table_of s client) × (client.protocol < 2 ^ 8) × (backend < length s.backends)
+-- connections are not followed, so each is kept as its protocol says
+abbrev pub MayConnect : Settings → ℕ → Endpoint → Slot → Type 0
+MayConnect s v client slot =
+    (v ≡ table_of s client) × (client.protocol < 2 ^ 8) × (slot.port < length s.backends) × (slot.phase ≡ Plain)
 
 abbrev pub Fits : Settings → ℕ → BalancerValue → Type 0
 Fits s v (Dropped d) = v ≡ 0

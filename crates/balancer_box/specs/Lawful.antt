@@ -13,6 +13,8 @@ use Rattle.plain_machine.specs.declared.local.Move.TheVariants.{Access, Read, Cl
 use Rattle.plain_machine.specs.Program.{IsLawful}
 use Rattle.nat_tables.specs.declared.entries.Endpoint.{Endpoint}
 use Rattle.nat_tables.specs.declared.slot.Slot.{Slot}
+use Rattle.nat_tables.specs.declared.phase.Phase.TheVariants.{Plain}
+use Rattle.nat_tables.specs.Forwards.{refreshed}
 use Rattle.nat_tables.specs.declared.entries.Find.{Find}
 use Rattle.nat_tables.specs.declared.entries.Find.TheVariants.{Live, Absent}
 use Rattle.nat_tables.specs.declared.entries.Bind.{Bind}
@@ -233,14 +235,15 @@ long_lowered number loads = by (nat_lt number (length loads)) refl
     by true q = rw q (grind (arith, common_steps))
     by false q = rw q refl
 
-module _ (May : Endpoint → ℕ → Type 0) where
+module _ (May : Endpoint → Slot → Type 0) (again : (key : Endpoint) (now : ℕ) (slot : Slot) → May key slot
+    → May key (refreshed now slot)) where
   fits_found : (key : Endpoint) (now : ℕ) (es : Forwards) (a : Option Slot) (b : Option (Endpoint × Slot))
       → AreMappings May es → AreMappings May (found key now es a b).1
   fits_found key now es (Some slot) b all = by (is_idle now (key, slot)) refl
     where
       by : (t : Bool) → is_idle now (key, slot) ≡ t → AreMappings May (found key now es (Some slot) b).1
       by true q = rw q (keeps_without May key es all)
-      by false q = rw q (keeps_refreshed May key now es all)
+      by false q = rw q (keeps_refreshed May key now es (again key now) all)
   fits_found key now es None (Some e) all = keeps_without_idle May now es all
   fits_found key now es None None all = all
 
@@ -261,10 +264,11 @@ module _ (May : Endpoint → ℕ → Type 0) where
       fits_closed r.0 resets key r.1 (fits_found key now es (slot_of key es) (first_idle now es) all)
 
   fits_bound : (key : Endpoint) (backend now : ℕ) (es : Forwards) (a : Option Slot) → slot_of key es ≡ a
-      → May key backend → AreMappings May es → AreMappings May (bound key backend now es a).1
-  fits_bound key backend now es (Some slot) is may all = keeps_refreshed May key now es all
+      → May key (record { port = backend; last = now; phase = Plain }) → AreMappings May es
+      → AreMappings May (bound key backend now es a).1
+  fits_bound key backend now es (Some slot) is may all = keeps_refreshed May key now es (again key now) all
   fits_bound key backend now es None is may all =
-      keeps_bound May key (record { port = backend; last = now }) es is may all
+      keeps_bound May key (record { port = backend; last = now; phase = Plain }) es is may all
 
 touched_fits : (s : Settings) (p : Place) (x : BalancerValue) (n : Noted) (v : ℕ) → IsNoted (length s.backends) n
     → var_of s p n ≡ v → Fits s v x → Fits s v (touched p x n).0
@@ -272,7 +276,7 @@ touched_fits s HearsTime x n v is e fits = fits
 touched_fits s FindsConnection (Dropped d) n v is e fits = fits
 touched_fits s FindsConnection (Loaded loads) n v is e fits = fits
 touched_fits s FindsConnection (Connected es) n v is e fits =
-    (fits.0, fits.1, fits_find (MayConnect s v) n.resets n.client n.time es fits.2)
+    (fits.0, fits.1, fits_find (MayConnect s v) (λ key now slot may. may) n.resets n.client n.time es fits.2)
 touched_fits s LowersIdle (Dropped d) n v is e fits = fits
 touched_fits s LowersIdle (Loaded loads) n v is e fits = (fits.0, long_lowered n.spare loads ∙ fits.1)
 touched_fits s LowersIdle (Connected es) n v is e fits = fits
@@ -284,8 +288,8 @@ touched_fits s Connects (Loaded loads) n v is e fits = fits
 touched_fits s Connects (Connected es) n v is e fits = (
   fits.0,
   fits.1,
-  fits_bound (MayConnect s v) n.client n.backend n.time es (slot_of n.client es) refl
-      (sym e, is.protocol, is.backend) fits.2,
+  fits_bound (MayConnect s v) (λ key now slot may. may) n.client n.backend n.time es (slot_of n.client es) refl
+      (sym e, is.protocol, is.backend, refl) fits.2,
 )
 touched_fits s LowersSpare (Dropped d) n v is e fits = fits
 touched_fits s LowersSpare (Loaded loads) n v is e fits = (fits.0, long_lowered n.spare loads ∙ fits.1)
@@ -295,7 +299,8 @@ touched_fits s ChecksConnection (Loaded loads) n v is e fits = fits
 touched_fits s ChecksConnection (Connected es) n v is e fits = (
   fits.0,
   fits.1,
-  fits_without_if (MayConnect s v) (lives n.client n.backend n.time es && n.resets) n.client es fits.2,
+  fits_without_if (MayConnect s v) (λ key now slot may. may) (lives n.client n.backend n.time es && n.resets) n.client
+      es fits.2,
 )
 touched_fits s CountsDrop (Dropped d) n v is e fits = fits
 touched_fits s CountsDrop (Loaded loads) n v is e fits = fits

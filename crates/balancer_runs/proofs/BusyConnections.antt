@@ -7,17 +7,21 @@ use Rattle.std.proofs.lemmas.Bool.Decides.{nat_tests}
 use Rattle.packet_headers.specs.declared.flow.Flow.{Flow}
 use Rattle.nat_tables.specs.declared.entries.Endpoint.{Endpoint}
 use Rattle.nat_tables.specs.declared.slot.Slot.{Slot}
-use Rattle.nat_tables.specs.Forwards.{timer, is_idle, slot_of, lives_at}
+use Rattle.nat_tables.specs.declared.phase.Phase.TheVariants.{Plain}
+use Rattle.nat_tables.specs.Phases.{timer}
+use Rattle.nat_tables.specs.Forwards.{is_idle, slot_of, lives_at}
 use Rattle.balancer_box.specs.Balancer.{is_virtual, backend_at}
 use Rattle.flow_boxes.specs.Flows.{dest_of}
 use Rattle.balancer_box.specs.Emissions.{Trail, trail_of, Lived, IsSentOnOf}
 use Rattle.balancer_box.proofs.Emissions.{emissions_follow}
 use Rattle.balancer_runs.specs.Answering.{IsBusyAt, MetBusy, AnswersComeBeforeIdle}
+use Rattle.balancer_runs.proofs.PlainTables.{run_plain}
 
-busy_is : (now : ℕ) (client : Endpoint) (slot : Slot) → is_idle now (client, slot) ≡ false → IsBusyAt now client slot
-busy_is now client slot busy = by (client.protocol == 6) refl
+busy_is : (now : ℕ) (client : Endpoint) (slot : Slot) → slot.phase ≡ Plain → is_idle now (client, slot) ≡ false
+    → IsBusyAt now client slot
+busy_is now client slot plain busy = by (client.protocol == 6) refl
   where
-    early : (n : ℕ) → timer client.protocol ≡ n → now < slot.last + n
+    early : (n : ℕ) → timer client.protocol slot.phase ≡ n → now < slot.last + n
     early n e =
         let t : not (nat_lt now (slot.last + n)) ≡ false =
         subst (λ (k : ℕ). not (nat_lt now (slot.last + k)) ≡ false) e busy in
@@ -30,10 +34,10 @@ busy_is now client slot busy = by (client.protocol == 6) refl
     by : (b : Bool) → (client.protocol == 6) ≡ b → IsBusyAt now client slot
     by true q =
         let is : client.protocol ≡ 6 = grind (arith, nat_tests) in
-        let a = early 7440000000 (rw q refl) in (λ k. a, λ k. absurd (k is))
+        let a = early 7440000000 (rw (plain, q) refl) in (λ k. a, λ k. absurd (k is))
     by false q =
         let off : client.protocol ≢ 6 = (λ e. absurd (grind (arith, nat_tests))) in
-        let a = early 300000000 (rw q refl) in (λ k. absurd (off k), λ k. a)
+        let a = early 300000000 (rw (plain, q) refl) in (λ k. absurd (off k), λ k. a)
 
 both : (a b : Bool) → (a && b) ≡ true → (a ≡ true) × (b ≡ true)
 both true b e = (refl, e)
@@ -43,12 +47,17 @@ not_true : (b : Bool) → not b ≡ true → b ≡ false
 not_true true e = absurd (cc)
 not_true false e = refl
 
-lives_busy : (client : Endpoint) (backend now : ℕ) (o : Option Slot) → lives_at client backend now o ≡ true
+lives_busy : (client : Endpoint) (backend now : ℕ) (o : Option Slot)
+    → ((slot : Slot) → o ≡ Some slot → slot.phase ≡ Plain) → lives_at client backend now o ≡ true
     → (slot : Slot) × (o ≡ Some slot) × (slot.port ≡ backend) × IsBusyAt now client slot
-lives_busy client backend now None is = absurd (cc)
-lives_busy client backend now (Some slot) is =
-    let k = both (slot.port == backend) (not (is_idle now (client, slot))) is in
-    (slot, refl, eqb-true _ _ k.0, busy_is now client slot (not_true (is_idle now (client, slot)) k.1))
+lives_busy client backend now None plain is = absurd (cc)
+lives_busy client backend now (Some slot) plain is =
+    let k = both (slot.port == backend) (not (is_idle now (client, slot))) is in (
+      slot,
+      refl,
+      eqb-true _ _ k.0,
+      busy_is now client slot (plain slot refl) (not_true (is_idle now (client, slot)) k.1),
+    )
 
 pub answers_before_idle : AnswersComeBeforeIdle
 answers_before_idle s threads inputs x earlier o p flow is bytes h sent input seen off =
@@ -61,7 +70,8 @@ answers_before_idle s threads inputs x earlier o p flow is bytes h sent input se
     lived : (number : ℕ) → backend_at s.backends flow.source flow.source_port ≡ Some number
         → Lived r (dest_of flow) number → MetBusy s flow r
     lived number at (es, now, found, clock, lives) =
-        let k = lives_busy (dest_of flow) number now (slot_of (dest_of flow) es) lives in
+        let k = lives_busy (dest_of flow) number now (slot_of (dest_of flow) es)
+        (λ slot there. run_plain s threads inputs earlier is h.1 x.thread es found (dest_of flow) slot there) lives in
         (es, now, k.0, found, clock, k.1, at ∙ ap Some (sym k.2), k.3)
 
     by : IsSentOnOf s r o.packet.bytes (Some p) → MetBusy s flow r

@@ -11,6 +11,8 @@ use Rattle.plain_machine.specs.History.{Step, act_of, left_by, thread_after, val
 use Rattle.plain_machine.proofs.Bounds.{values_fit}
 use Rattle.nat_tables.specs.declared.entries.Endpoint.{Endpoint}
 use Rattle.nat_tables.specs.declared.slot.Slot.{Slot}
+use Rattle.nat_tables.specs.declared.phase.Phase.TheVariants.{Plain}
+use Rattle.nat_tables.proofs.Keeping.{may_slot}
 use Rattle.nat_tables.specs.Forwards.{Forwards, is_idle, slot_of, refresh, first_idle, found_there, found, bound}
 use Rattle.nat_tables.specs.Forwards.{lives, AreMappings}
 use Rattle.balancer_box.specs.declared.place.Place.{Place}
@@ -47,10 +49,10 @@ module _ (s : Settings) (r : Trail) (met : Option (List ℕ × List ℕ)) (p : P
   abbrev Gone : Endpoint → Slot → Type 0
   Gone client slot = WasIdle r.clock client slot ⊎ Resets s client slot.port p
 
-  of_idle : (client : Endpoint) (slot : Slot) → r.clock ≡ Some n.time → is_idle n.time (client, slot) ≡ true
-      → Gone client slot
-  of_idle client slot clock idle =
-      inl (subst (λ (c : Option ℕ). WasIdle c client slot) (sym clock) (idle_is n.time client slot idle))
+  of_idle : (client : Endpoint) (slot : Slot) → r.clock ≡ Some n.time → slot.phase ≡ Plain
+      → is_idle n.time (client, slot) ≡ true → Gone client slot
+  of_idle client slot clock plain idle =
+      inl (subst (λ (c : Option ℕ). WasIdle c client slot) (sym clock) (idle_is n.time client slot plain idle))
 
   of_client_reset : (slot : Slot) → IsTold s r p n Client → n.resets ≡ true → Gone n.client slot
   of_client_reset slot told is =
@@ -80,7 +82,8 @@ module _ (s : Settings) (r : Trail) (met : Option (List ℕ × List ℕ)) (p : P
     there_go told slot true at is =
         all_without Gone n.time (MayConnect s v) n.client es all (λ other there.
         (let e : slot ≡ other = cc in
-        of_idle n.client other told.clock (subst (λ (x : Slot). is_idle n.time (n.client, x) ≡ true) e is)))
+        of_idle n.client other told.clock (may_slot (MayConnect s v) n.client other es there all).3
+        (subst (λ (x : Slot). is_idle n.time (n.client, x) ≡ true) e is)))
     there_go told slot false at is = by n.resets refl
       where
         by : (b : Bool) → n.resets ≡ b → AllGo es (without_if b n.client (refresh n.client n.time es))
@@ -93,12 +96,13 @@ module _ (s : Settings) (r : Trail) (met : Option (List ℕ × List ℕ)) (p : P
         → (let f = found n.client n.time es a b in AllGo es (closed f.0 n.resets n.client f.1))
     found_go told (Some slot) b at = there_go told slot (is_idle n.time (n.client, slot)) at refl
     found_go told None (Some gone) at =
-        all_without_idle Gone n.time (MayConnect s v) es all (λ e idle. of_idle e.0 e.1 told.clock idle)
+        all_without_idle Gone n.time (MayConnect s v) es all (λ e may idle. of_idle e.0 e.1 told.clock may.3 idle)
     found_go told None None at = all_stay Gone n.time es
 
     bound_go : (a : Option Slot) → AllGo es (bound n.client n.backend n.time es a).1
     bound_go (Some slot) = all_used Gone n.time n.client es
-    bound_go None = all_append Gone n.time es ((n.client, record { port = n.backend; last = n.time }) ∷ [])
+    bound_go None =
+        all_append Gone n.time es ((n.client, record { port = n.backend; last = n.time; phase = Plain }) ∷ [])
 
     checked_go : IsTold s r p n Answer → (a b : Bool) → lives n.client n.backend n.time es ≡ a → n.resets ≡ b
         → AllGo es (without_if (a && b) n.client es)
@@ -133,7 +137,7 @@ module _ (s : Settings) (r : Trail) (met : Option (List ℕ × List ℕ)) (p : P
 
   -- a new connection is the one that the packet makes
   abbrev IsNew : Endpoint → Slot → Type 0
-  IsNew client slot = (client ≡ n.client) × (slot ≡ record { port = n.backend; last = n.time })
+  IsNew client slot = (client ≡ n.client) × (slot ≡ record { port = n.backend; last = n.time; phase = Plain })
 
   bound_new : (es : Forwards) (a : Option Slot) (client : Endpoint) (slot : Slot) → slot_of n.client es ≡ a
       → slot_of client es ≡ None → slot_of client (bound n.client n.backend n.time es a).1 ≡ Some slot
@@ -141,7 +145,7 @@ module _ (s : Settings) (r : Trail) (met : Option (List ℕ × List ℕ)) (p : P
   bound_new es (Some there) client slot at none is =
       let k = none_by_refresh n.client n.time es client none in absurd (cc)
   bound_new es None client slot at none is =
-      new_appended n.client client slot (record { port = n.backend; last = n.time }) es none is
+      new_appended n.client client slot (record { port = n.backend; last = n.time; phase = Plain }) es none is
 
   touch_goes : (place : Place) (x : BalancerValue) (v : ℕ) → Fits s v x → KnownAt s r met p place n
       → AllGo (connections_in x) (connections_in (touched place x n).0)

@@ -17,6 +17,8 @@ use Rattle.plain_machine.proofs.Histories.{not_eq, is_eq}
 use Rattle.plain_machine.proofs.Bounds.{values_fit}
 use Rattle.nat_tables.specs.declared.entries.Endpoint.{Endpoint}
 use Rattle.nat_tables.specs.declared.slot.Slot.{Slot}
+use Rattle.nat_tables.specs.declared.phase.Phase.TheVariants.{Plain}
+use Rattle.nat_tables.proofs.Keeping.{may_slot}
 use Rattle.nat_tables.specs.Forwards.{Forwards, slot_of, is_idle, first_idle, found_there, found, bound, lives_at}
 use Rattle.nat_tables.specs.Forwards.{lives}
 use Rattle.flow_boxes.specs.Drops.{reason_of}
@@ -37,7 +39,7 @@ use Rattle.balancer_box.specs.Places.{place_numbered}
 use Rattle.balancer_box.specs.Balancer.{Settings, goes, next_move, resets, is_virtual, backend_at}
 use Rattle.balancer_box.specs.Balancer.{of_client, begun_answer, begun_flow, begun, begins, goes_to}
 use Rattle.balancer_box.specs.Balancer.{after_find, after_bind, after_check, touched, after_time, told, local_at}
-use Rattle.balancer_box.specs.Balancer.{noted_by, balancer_meaning, Fits}
+use Rattle.balancer_box.specs.Balancer.{noted_by, balancer_meaning, MayConnect, Fits}
 use Rattle.balancer_box.specs.Noting.{place_again, IsNoted, is_noted, noted_again}
 use Rattle.balancer_box.specs.Lawful.{AreSettings, var_of, touches_it, below_all, balancer_lawful}
 use Rattle.balancer_box.specs.Emissions.{Trail, no_trail, trail_of_touch, trail_by, trail_of}
@@ -165,7 +167,8 @@ module _ (s : Settings) (p : Packet) where
   after_touch x left r = trail_of_touch x (Some left) r
 
   module _ (r : Trail) (met : Option (List ℕ × List ℕ)) (n : Noted) (es : Forwards) (left : BalancerValue)
-      (told : IsTold s r p n Client) where
+      (told : IsTold s r p n Client)
+      (plain : (slot : Slot) → slot_of n.client es ≡ Some slot → slot.phase ≡ Plain) where
     abbrev next : Trail
     next = after_touch (Connected es) left r
 
@@ -177,7 +180,7 @@ module _ (s : Settings) (p : Packet) where
         KnownAt s next met p (after_find n f.0).place (after_find n f.0).noted)
     there_known slot true at is = (
       client_on r next n (record n { spare = slot.port }) refl refl refl refl refl told,
-      (es, refl, subst (HasNone n.client n.time) (sym at) (idle_is n.time n.client slot is)),
+      (es, refl, subst (HasNone n.client n.time) (sym at) (idle_is n.time n.client slot (plain slot at) is)),
     )
     there_known slot false at is = goes_known next met n n.resets slot.port
 
@@ -193,28 +196,30 @@ module _ (s : Settings) (p : Packet) where
         begins_known next met n n.resets refl told_next (es, refl, subst (HasNone n.client n.time) (sym at) tt)
 
   -- an answer that found no connection
-  not_lives : (client : Endpoint) (backend now : ℕ) (o : Option Slot) → lives_at client backend now o ≡ false
+  not_lives : (client : Endpoint) (backend now : ℕ) (o : Option Slot)
+      → ((slot : Slot) → o ≡ Some slot → slot.phase ≡ Plain) → lives_at client backend now o ≡ false
       → HasNoneTo backend client now o
-  not_lives client backend now None is = tt
-  not_lives client backend now (Some slot) is = by (slot.port == backend) refl (is_idle now (client, slot)) refl
+  not_lives client backend now None plain is = tt
+  not_lives client backend now (Some slot) plain is = by (slot.port == backend) refl (is_idle now (client, slot)) refl
     where
       by : (a : Bool) → (slot.port == backend) ≡ a → (b : Bool) → is_idle now (client, slot) ≡ b
           → HasNoneTo backend client now (Some slot)
       by false q b t = inl (λ e. absurd (let z : (slot.port == backend) ≡ true = is_eq slot.port backend e in cc))
-      by true q true t = inr (idle_is now client slot t)
+      by true q true t = inr (idle_is now client slot (plain slot refl) t)
       by true q false t =
           let z : ((slot.port == backend) && not (is_idle now (client, slot))) ≡ true = rw (q, t) refl in absurd (cc)
 
   check_known : (r : Trail) (met : Option (List ℕ × List ℕ)) (n : Noted) (es left : Forwards)
-      → IsTold s r p n Answer → (b : Bool) → lives n.client n.backend n.time es ≡ b
+      → IsTold s r p n Answer → ((slot : Slot) → slot_of n.client es ≡ Some slot → slot.phase ≡ Plain) → (b : Bool)
+      → lives n.client n.backend n.time es ≡ b
       → KnownAt s (after_touch (Connected es) (Connected left) r) met p (after_check n b).place (after_check n b).noted
-  check_known r met n es left told true is =
+  check_known r met n es left told plain true is =
       goes_known (after_touch (Connected es) (Connected left) r) met n n.resets n.backend
-  check_known r met n es left told false is =
+  check_known r met n es left told plain false is =
       let base : IsBase s p n = told.base in
       let of : IsOf s base.flow n Answer = answer_of n base told.is_class in
       let none : HasNoneTo n.backend n.client n.time (slot_of n.client es) =
-      not_lives n.client n.backend n.time (slot_of n.client es) is in
+      not_lives n.client n.backend n.time (slot_of n.client es) plain is in
       let has : HasNoneTo n.backend (dest_of base.flow) n.time (slot_of (dest_of base.flow) es) =
       subst (λ (k : Endpoint). HasNoneTo n.backend k n.time (slot_of k es)) of.1 none in
       inr (
@@ -243,7 +248,8 @@ module _ (s : Settings) (p : Packet) where
   touch_known r met later FindsConnection (Loaded loads) n v e at fits is chosen k = tt
   touch_known r met later FindsConnection (Connected es) n v e at fits is chosen k =
       let left : BalancerValue = Connected (find_connection n.resets n.client n.time es).1 in
-      found_known r later n es left k (slot_of n.client es) (first_idle n.time es) refl
+      found_known r later n es left k (λ slot there. (may_slot (MayConnect s v) n.client slot es there fits.2).3)
+      (slot_of n.client es) (first_idle n.time es) refl
   touch_known r met later LowersIdle (Dropped d) n v e at fits is chosen k = tt
   touch_known r met later LowersIdle (Loaded loads) n v e at fits is chosen k =
       begins_known r later n n.resets refl k.0 k.1
@@ -272,7 +278,7 @@ module _ (s : Settings) (p : Packet) where
   touch_known r met later ChecksConnection (Connected es) n v e at fits is chosen k =
       let b : Bool = lives n.client n.backend n.time es in
       let left : Forwards = without_if (b && n.resets) n.client es in
-      check_known r later n es left k b refl
+      check_known r later n es left k (λ slot there. (may_slot (MayConnect s v) n.client slot es there fits.2).3) b refl
   touch_known r met later CountsDrop (Dropped d) n v e at fits is chosen k = tt
   touch_known r met later CountsDrop (Loaded loads) n v e at fits is chosen k = tt
   touch_known r met later CountsDrop (Connected es) n v e at fits is chosen k = tt

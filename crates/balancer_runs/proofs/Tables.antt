@@ -5,19 +5,22 @@ use Rattle.std.specs.Prelude.{max, nat_lt, not, ◌==◌, if◌then◌else◌}
 use Rattle.std.proofs.lemmas.Bool.Decides.{nat_tests}
 use Rattle.nat_tables.specs.declared.entries.Endpoint.{Endpoint}
 use Rattle.nat_tables.specs.declared.slot.Slot.{Slot}
+use Rattle.nat_tables.specs.declared.phase.Phase.TheVariants.{Plain}
 use Rattle.nat_tables.specs.Keys.{same_endpoint}
-use Rattle.nat_tables.specs.Forwards.{Forwards, timer, is_idle, slot_of, refreshed, refresh, without, without_idle}
+use Rattle.nat_tables.specs.Forwards.{Forwards, is_idle, slot_of, refreshed, refresh, without, without_idle}
 use Rattle.nat_tables.specs.Forwards.{Misses, AreMappings}
+use Rattle.nat_tables.specs.Phases.{timer}
 use Rattle.nat_tables.proofs.Counting.{same_is}
 use Rattle.balancer_box.proofs.ConnectionLemmas.{missed}
 use Rattle.balancer_runs.specs.Staying.{IsIdleAt}
 
 -- Idle connections, in numbers
 
-pub idle_is : (now : ℕ) (client : Endpoint) (slot : Slot) → is_idle now (client, slot) ≡ true → IsIdleAt now client slot
-idle_is now client slot idle = by (client.protocol == 6) refl
+pub idle_is : (now : ℕ) (client : Endpoint) (slot : Slot) → slot.phase ≡ Plain → is_idle now (client, slot) ≡ true
+    → IsIdleAt now client slot
+idle_is now client slot plain idle = by (client.protocol == 6) refl
   where
-    late : (n : ℕ) → timer client.protocol ≡ n → slot.last + n ≤ now
+    late : (n : ℕ) → timer client.protocol slot.phase ≡ n → slot.last + n ≤ now
     late n e =
         let t : (not (nat_lt now (slot.last + n))) ≡ true =
         subst (λ (k : ℕ). not (nat_lt now (slot.last + k)) ≡ true) e idle in
@@ -30,11 +33,11 @@ idle_is now client slot idle = by (client.protocol == 6) refl
     by : (b : Bool) → (client.protocol == 6) ≡ b → IsIdleAt now client slot
     by true q =
         let is : client.protocol ≡ 6 = grind (arith, nat_tests) in
-        let a = late 7440000000 (rw q refl) in
+        let a = late 7440000000 (rw (plain, q) refl) in
         (omega arith, λ k. omega arith, λ k. absurd (k is))
     by false q =
         let off : client.protocol ≢ 6 = (λ e. absurd (grind (arith, nat_tests))) in
-        let a = late 300000000 (rw q refl) in
+        let a = late 300000000 (rw (plain, q) refl) in
         (omega arith, λ k. absurd (off k), λ k. omega arith)
 
 -- The slot of a client after a change
@@ -106,7 +109,7 @@ module _ (Gone : Endpoint → Slot → Type 0) (now : ℕ) where
       let nothing : slot_of client es ≡ None = missed client es (subst (Misses es) (sym k) none) in
       subst (Becomes client slot) (sym nothing) there
 
-  module _ (May : Endpoint → ℕ → Type 0) where
+  module _ (May : Endpoint → Slot → Type 0) where
     pub all_without : (key : Endpoint) (es : Forwards) → AreMappings May es
         → ((slot : Slot) → slot_of key es ≡ Some slot → Gone key slot) → GoAll Gone now es (without key es)
     all_without key [] all gone client slot is = absurd (cc)
@@ -126,7 +129,8 @@ module _ (Gone : Endpoint → Slot → Type 0) (now : ℕ) where
             (rest (λ there at. gone there (rw q at))))
 
     pub all_without_idle : (es : Forwards) → AreMappings May es
-        → ((e : Endpoint × Slot) → is_idle now e ≡ true → Gone e.0 e.1) → GoAll Gone now es (without_idle now es)
+        → ((e : Endpoint × Slot) → May e.0 e.1 → is_idle now e ≡ true → Gone e.0 e.1)
+        → GoAll Gone now es (without_idle now es)
     all_without_idle [] all gone client slot is = absurd (cc)
     all_without_idle (e ∷ es) all gone client slot is =
         by (is_idle now e) refl (all_without_idle es all.2 gone client slot)
@@ -134,7 +138,7 @@ module _ (Gone : Endpoint → Slot → Type 0) (now : ℕ) where
         by : (b : Bool) → is_idle now e ≡ b
             → (slot_of client es ≡ Some slot → Becomes client slot (slot_of client (without_idle now es)))
             → Becomes client slot (slot_of client (without_idle now (e ∷ es)))
-        by true q rest = rw q (removed client slot e es (same_endpoint client e.0) refl is all.1 (gone e q))
+        by true q rest = rw q (removed client slot e es (same_endpoint client e.0) refl is all.1 (gone e all.0 q))
         by false q rest =
             rw q (in_front client slot e es (without_idle now es) (same_endpoint client e.0) refl is rest)
 

@@ -14,8 +14,8 @@ use Rattle.box_conf.specs.declared.kind.BoxConf.{BoxConf}
 use Rattle.box_conf.specs.declared.kind.KindWord.{KindWord}
 use Rattle.box_conf.specs.declared.kind.KindWord.TheVariants as kind
 use Rattle.balancer_box.specs.declared.backends.Backend.{Backend as Named}
-use Rattle.box_conf.specs.declared.table.BoxLine.TheVariants.{Threads, Seed, Shards, Inside, Outside, Ports, Virtual}
-use Rattle.box_conf.specs.declared.table.BoxLine.TheVariants.{Backend}
+use Rattle.box_conf.specs.declared.table.BoxLine.TheVariants.{Threads, Seed, Shards, Inside, Outside, Ports, Closing}
+use Rattle.box_conf.specs.declared.table.BoxLine.TheVariants.{Virtual, Backend}
 use Rattle.box_conf.specs.declared.table.BoxLine.{BoxLine}
 use Rattle.box_conf.specs.Backends.{backend_fault, backends_after}
 use Rattle.box_conf.specs.BoxFile.{AreOfKind, IsDescribed, IsBoxFile, Names, NamesNone, LeavesTable, NamesInVain}
@@ -69,6 +69,7 @@ of_once values others Shards = values Shards
 of_once values others Inside = values Inside
 of_once values others Outside = values Outside
 of_once values others Ports = values Ports
+of_once values others Closing = values Closing
 of_once values others Virtual = values Virtual
 of_once values others Backend = others Backend
 
@@ -100,6 +101,7 @@ of_one_kind text kind a b x y =
     same Inside = one Inside refl
     same Outside = one Outside refl
     same Ports = one Ports refl
+    same Closing = one Closing refl
     same Virtual = one Virtual refl
     same Backend = refl
 

@@ -1,5 +1,6 @@
 -- What a line sets is in the range of the line.
-use Rattle.std.proofs.Common.{◌≡◌, ◌≢◌, ℕ, ◌^◌, ◌<◌, ◌≤◌, ◌⊎◌, inl, inr, arith, List, [], ◌∷◌, refl, sym, subst, Option}
+use Rattle.std.proofs.Common.{◌≡◌, ◌≢◌, ℕ, ◌-◌, ◌^◌, ◌<◌, ◌≤◌, ◌⊎◌, inl, inr, arith, List, [], ◌∷◌, refl, sym, subst}
+use Rattle.std.proofs.Common.{Option}
 use Rattle.std.proofs.Common.{Some, None, true, false, Bool, cond, Ok, Err}
 use Rattle.std.specs.Prelude.{Result, IfOk, IfSome, ◌&&◌, nat_le, is_none, is_some}
 use Rattle.std.proofs.lemmas.Bool.Decides.{nat_tests}
@@ -10,8 +11,8 @@ use Rattle.box_conf.specs.declared.kind.KindWord.{KindWord}
 use Rattle.box_conf.specs.declared.kind.KindWord.TheVariants as kind
 use Rattle.box_conf.specs.declared.settings.Settings.{Settings}
 use Rattle.box_conf.specs.declared.table.BoxLine.{BoxLine}
-use Rattle.box_conf.specs.declared.table.BoxLine.TheVariants.{Threads, Seed, Shards, Inside, Outside, Ports, Virtual}
-use Rattle.box_conf.specs.declared.table.BoxLine.TheVariants.{Backend}
+use Rattle.box_conf.specs.declared.table.BoxLine.TheVariants.{Threads, Seed, Shards, Inside, Outside, Ports, Closing}
+use Rattle.box_conf.specs.declared.table.BoxLine.TheVariants.{Virtual, Backend}
 use Rattle.box_conf.specs.declared.table.Values.{Values}
 use Rattle.box_conf.specs.Kinds.{missing_line, rows_of}
 use Rattle.box_conf.specs.Reading.{set_line}
@@ -79,6 +80,8 @@ says_within Outside words values s f = address_within [] words values s
 says_within Ports words values s f =
     let ends = two_within 1 65535 words values s in
     (ends.0, in_order (values_from values).first (values_from values).second f, ends.1)
+says_within Closing words values s f =
+    let ends = one_within 1 (2 ^ 32 - 1) words values s in omega (arith, ends.1)
 says_within Virtual words values s f = end_within words values s
 says_within Backend words values s f = end_within words values s
 

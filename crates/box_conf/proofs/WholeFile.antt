@@ -17,8 +17,8 @@ use Rattle.box_conf.specs.declared.kind.BoxConf.{BoxConf}
 use Rattle.box_conf.specs.declared.settings.Settings.{Settings}
 use Rattle.box_conf.specs.declared.kind.KindWord.{KindWord}
 use Rattle.box_conf.specs.declared.table.BoxLine.{BoxLine}
-use Rattle.box_conf.specs.declared.table.BoxLine.TheVariants.{Threads, Seed, Shards, Inside, Outside, Ports, Virtual}
-use Rattle.box_conf.specs.declared.table.BoxLine.TheVariants.{Backend}
+use Rattle.box_conf.specs.declared.table.BoxLine.TheVariants.{Threads, Seed, Shards, Inside, Outside, Ports, Closing}
+use Rattle.box_conf.specs.declared.table.BoxLine.TheVariants.{Virtual, Backend}
 use Rattle.box_conf.specs.declared.table.Values.{Values}
 use Rattle.box_conf.specs.Backends.{backends_after}
 use Rattle.box_conf.specs.BoxFile.{AreOfKind, Names, NamesNone, Has as HasValues}
@@ -36,7 +36,7 @@ Line = ℕ × List ℕ
 
 abbrev line_in : List ℕ → Option BoxLine
 line_in word = find (λ line. bytes_eq word (word_of line))
-    (Threads ∷ Seed ∷ Shards ∷ Inside ∷ Outside ∷ Ports ∷ Virtual ∷ Backend ∷ [])
+    (Threads ∷ Seed ∷ Shards ∷ Inside ∷ Outside ∷ Ports ∷ Closing ∷ Virtual ∷ Backend ∷ [])
 
 line_back : (line : BoxLine) → line_in (word_of line) ≡ Some line
 line_back Threads = refl
@@ -45,6 +45,7 @@ line_back Shards = refl
 line_back Inside = refl
 line_back Outside = refl
 line_back Ports = refl
+line_back Closing = refl
 line_back Virtual = refl
 line_back Backend = refl
 
@@ -67,6 +68,7 @@ set_or s Shards Shards v = inr (refl, refl)
 set_or s Inside Inside v = inr (refl, refl)
 set_or s Outside Outside v = inr (refl, refl)
 set_or s Ports Ports v = inr (refl, refl)
+set_or s Closing Closing v = inr (refl, refl)
 set_or s Virtual Virtual v = inr (refl, refl)
 set_or s Backend Backend v = inr (refl, refl)
 set_or s Threads other v = inl ((λ e. cc), refl)
@@ -75,6 +77,7 @@ set_or s Shards other v = inl ((λ e. cc), refl)
 set_or s Inside other v = inl ((λ e. cc), refl)
 set_or s Outside other v = inl ((λ e. cc), refl)
 set_or s Ports other v = inl ((λ e. cc), refl)
+set_or s Closing other v = inl ((λ e. cc), refl)
 set_or s Virtual other v = inl ((λ e. cc), refl)
 set_or s Backend other v = inl ((λ e. cc), refl)
 
@@ -326,6 +329,7 @@ begins kind first rest n index rising names = record {
     unset Inside = none_of Inside
     unset Outside = none_of Outside
     unset Ports = none_of Ports
+    unset Closing = none_of Closing
     unset Virtual = none_of Virtual
     unset Backend = none_of Backend
 

@@ -2,7 +2,8 @@
 -- means.
 -- It is the one place that ties a kind to a program: contracts of the commands speak of the meaning of the kind, and of
 -- no box by name.
-use Rattle.std.specs.Prelude.{ℕ, ◌&&◌, true, false, List, [], ◌∷◌, map, find, codes, is_none, Option}
+use Rattle.std.specs.Prelude.{ℕ, ◌&&◌, true, false, List, [], ◌∷◌, map, find, codes, is_none, Option, Some, None}
+use Rattle.std.specs.Prelude.{◌==◌, if◌then◌else◌}
 use Rattle.std.specs.Str.{bytes_eq}
 use Rattle.plain_text.specs.Grammar.{Row, OneOf}
 use Rattle.plain_machine.specs.Program.{Meaning}
@@ -23,7 +24,8 @@ use Rattle.box_conf.specs.declared.kind.KindWord.TheVariants as kind
 use Rattle.box_conf.specs.declared.settings.Settings.{Settings}
 use Rattle.box_conf.specs.declared.table.BoxLine.{BoxLine}
 use Rattle.box_conf.specs.declared.table.BoxLine.TheVariants as line
-use Rattle.box_conf.specs.declared.table.BoxLine.TheVariants.{Threads, Seed, Shards, Inside, Outside, Ports, Virtual}
+use Rattle.box_conf.specs.declared.table.BoxLine.TheVariants.{Threads, Seed, Shards, Inside, Outside, Ports, Closing}
+use Rattle.box_conf.specs.declared.table.BoxLine.TheVariants.{Virtual}
 use Rattle.box_conf.specs.declared.table.Values.{Values}
 use Rattle.box_conf.specs.Settings.{setting}
 use Rattle.box_conf.specs.Table.{row_of, usual_of, word_of}
@@ -42,12 +44,18 @@ kind_word kind.Balancer = codes "balancer"
 abbrev pub lines_of : KindWord → List BoxLine
 lines_of kind.Count = Threads ∷ Seed ∷ []
 lines_of kind.Monitor = Threads ∷ Seed ∷ Shards ∷ []
-lines_of kind.Nat = Threads ∷ Seed ∷ Shards ∷ Inside ∷ Outside ∷ Ports ∷ []
+lines_of kind.Nat = Threads ∷ Seed ∷ Shards ∷ Inside ∷ Outside ∷ Ports ∷ Closing ∷ []
 lines_of kind.Balancer = Threads ∷ Seed ∷ Shards ∷ Virtual ∷ line.Backend ∷ []
 
+-- the seconds of the line `closing`; none where it is not there
+abbrev pub seconds_of : ℕ → Option ℕ
+seconds_of number = if number == 0 then None else Some number
+
 abbrev pub nat_from : (BoxLine → Values) → NatBox
-nat_from values = nat.box_with (values Shards).first (values Inside).first (values Inside).second (values Outside).first
-    (values Ports).first (values Ports).second
+nat_from values =
+    nat.with_closing (seconds_of (values Closing).first)
+    (nat.box_with (values Shards).first (values Inside).first (values Inside).second (values Outside).first
+    (values Ports).first (values Ports).second)
 
 -- the box, where the lines have these values and name these backends
 abbrev pub box_from : KindWord → (BoxLine → Values) → List Backend → BoxKind

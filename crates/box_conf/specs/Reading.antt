@@ -70,6 +70,7 @@ no_settings = record {
   inside = None;
   outside = None;
   ports = None;
+  closing = None;
   virtual_end = None;
   backend = None;
 }

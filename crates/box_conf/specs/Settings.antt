@@ -6,8 +6,8 @@ use Rattle.plain_text.specs.declared.fault.LineCause.TheVariants.{OutOfRange, Tw
 use Rattle.plain_text.specs.Grammar.{form_fault, range_fault, row_fault, values_in}
 use Rattle.box_conf.specs.declared.settings.Settings.{Settings}
 use Rattle.box_conf.specs.declared.table.BoxLine.{BoxLine}
-use Rattle.box_conf.specs.declared.table.BoxLine.TheVariants.{Threads, Seed, Shards, Inside, Outside, Ports, Virtual}
-use Rattle.box_conf.specs.declared.table.BoxLine.TheVariants.{Backend}
+use Rattle.box_conf.specs.declared.table.BoxLine.TheVariants.{Threads, Seed, Shards, Inside, Outside, Ports, Closing}
+use Rattle.box_conf.specs.declared.table.BoxLine.TheVariants.{Virtual, Backend}
 use Rattle.box_conf.specs.declared.table.Places.{Places}
 use Rattle.box_conf.specs.declared.table.Values.{Values}
 use Rattle.box_conf.specs.Table.{again_of, all_places, are_within, fits_of, places_of, row_of, usual_of, values_from}
@@ -19,6 +19,7 @@ setting s Shards = s.shards
 setting s Inside = s.inside
 setting s Outside = s.outside
 setting s Ports = s.ports
+setting s Closing = s.closing
 setting s Virtual = s.virtual_end
 setting s Backend = s.backend
 
@@ -29,6 +30,7 @@ with_setting s Shards values = record s { shards = Some values }
 with_setting s Inside values = record s { inside = Some values }
 with_setting s Outside values = record s { outside = Some values }
 with_setting s Ports values = record s { ports = Some values }
+with_setting s Closing values = record s { closing = Some values }
 with_setting s Virtual values = record s { virtual_end = Some values }
 with_setting s Backend values = record s { backend = Some values }
 
@@ -81,6 +83,7 @@ IsWithin Shards values = (1 ≤ values.first) × (values.first ≤ 64)
 IsWithin Inside values = (values.first < 2 ^ 32) × (1 ≤ values.second) × (values.second ≤ 32)
 IsWithin Outside values = values.first < 2 ^ 32
 IsWithin Ports values = (1 ≤ values.first) × (values.first ≤ values.second) × (values.second ≤ 65535)
+IsWithin Closing values = values.first < 2 ^ 32
 IsWithin Virtual values = (values.first < 2 ^ 32) × (values.second ≤ 65535)
 IsWithin Backend values = (values.first < 2 ^ 32) × (values.second ≤ 65535)
 

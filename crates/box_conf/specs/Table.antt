@@ -7,8 +7,8 @@ use Rattle.plain_text.specs.declared.field.Field.TheVariants as field
 use Rattle.plain_text.specs.Grammar.{Place, Row, is_within}
 use Rattle.plain_text.specs.Grammar as place
 use Rattle.box_conf.specs.declared.table.BoxLine.{BoxLine}
-use Rattle.box_conf.specs.declared.table.BoxLine.TheVariants.{Threads, Seed, Shards, Inside, Outside, Ports, Virtual}
-use Rattle.box_conf.specs.declared.table.BoxLine.TheVariants.{Backend}
+use Rattle.box_conf.specs.declared.table.BoxLine.TheVariants.{Threads, Seed, Shards, Inside, Outside, Ports, Closing}
+use Rattle.box_conf.specs.declared.table.BoxLine.TheVariants.{Virtual, Backend}
 use Rattle.box_conf.specs.declared.table.LinePlace.{LinePlace}
 use Rattle.box_conf.specs.declared.table.LinePlace.TheVariants.{Number, Address}
 use Rattle.box_conf.specs.declared.table.Places.{Places}
@@ -24,6 +24,7 @@ word_of Shards = codes "shards"
 word_of Inside = codes "inside"
 word_of Outside = codes "outside"
 word_of Ports = codes "ports"
+word_of Closing = codes "closing"
 word_of Virtual = codes "virtual"
 word_of Backend = codes "backend"
 
@@ -34,6 +35,7 @@ places_of Shards = One (Number 1 64)
 places_of Inside = Two Address (Number 1 32)
 places_of Outside = One Address
 places_of Ports = Two (Number 1 65535) (Number 1 65535)
+places_of Closing = One (Number 1 (2 ^ 32 - 1))
 places_of Virtual = Two Address (Number 0 65535)
 places_of Backend = Two Address (Number 0 65535)
 
@@ -45,6 +47,7 @@ fits_of Shards values = true
 fits_of Inside values = true
 fits_of Outside values = true
 fits_of Ports values = nat_le values.first values.second
+fits_of Closing values = true
 fits_of Virtual values = true
 fits_of Backend values = true
 
@@ -56,6 +59,7 @@ again_of Shards = false
 again_of Inside = false
 again_of Outside = false
 again_of Ports = false
+again_of Closing = false
 again_of Virtual = false
 again_of Backend = true
 
@@ -66,6 +70,7 @@ usual_of Shards = Some (16 ∷ [])
 usual_of Inside = None
 usual_of Outside = None
 usual_of Ports = Some (1024 ∷ 65535 ∷ [])
+usual_of Closing = Some (0 ∷ [])
 usual_of Virtual = None
 usual_of Backend = None
 

@@ -30,6 +30,7 @@ const BOX: &[u8] = b"box";
 /// | `inside ADDRESS LENGTH` | `nat` | a length of 1 to 32 bits | a fault |
 /// | `outside ADDRESS` | `nat` | any address | a fault |
 /// | `ports LOW HIGH` | `nat` | 1 to 65,535, LOW at most HIGH | 1024 65535 |
+/// | `closing SECONDS` | `nat` | 1 to 4,294,967,295 | connections are not followed |
 /// | `virtual ADDRESS PORT` | `balancer` | a port of 0 to 65,535 | a fault |
 /// | `backend ADDRESS PORT` | `balancer` | a port of 0 to 65,535; 1 to 64 lines, each with another backend | a fault |
 pub fn read_box(text: &[u8]) -> Result<BoxConf, LineFault>
@@ -101,6 +102,7 @@ fn read_settings(text: &[u8]) -> Result<SetLines, LineFault>
         inside: None,
         outside: None,
         ports: None,
+        closing: None,
         virtual_end: None,
         backend: None,
     };

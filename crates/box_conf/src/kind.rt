@@ -1,6 +1,6 @@
-ghost use Rattle.std.specs.Prelude.{◌≡◌, ◌≤◌, true, None, is_some, length};
+ghost use Rattle.std.specs.Prelude.{◌≡◌, ◌≤◌, ◌<◌, ◌^◌, true, None, is_some, length};
 ghost use Rattle.box_conf.specs.Kinds.{kind_named, lines_of, line_named, missing_line, box_from};
-ghost use Rattle.box_conf.specs.Kinds.{nat_from, IsBalancer};
+ghost use Rattle.box_conf.specs.Kinds.{seconds_of, nat_from, IsBalancer};
 ghost use Rattle.box_conf.specs.Settings.{AreInRange, setting, values_set};
 ghost use Rattle.box_conf.specs.declared.table.BoxLine.TheVariants.{Inside, Outside};
 
@@ -72,6 +72,7 @@ impl KindWord {
                 BoxLine::Inside,
                 BoxLine::Outside,
                 BoxLine::Ports,
+                BoxLine::Closing,
             ],
             KindWord::Balancer => &[
                 BoxLine::Threads,
@@ -130,6 +131,18 @@ impl KindWord {
     }
 }
 
+/// The seconds of the line `closing`; none where it is not there.
+fn seconds_of(number: u64) -> Option<u32>
+    requires { number < 2 ^ 32 }
+    ensures { result ≡ seconds_of number }
+{
+    if number == 0 {
+        None
+    } else {
+        Some(number as u32)
+    }
+}
+
 /// The NAT of these settings.
 fn make_nat(settings: Settings) -> NatBox
     requires in_range { AreInRange settings }
@@ -141,6 +154,7 @@ fn make_nat(settings: Settings) -> NatBox
     let inside = settings.values(BoxLine::Inside);
     let outside = settings.values(BoxLine::Outside).first;
     let ports = settings.values(BoxLine::Ports);
+    let closing = settings.values(BoxLine::Closing).first;
     NatBox::new(
         shards as u32,
         inside.first as u32,
@@ -149,4 +163,5 @@ fn make_nat(settings: Settings) -> NatBox
         ports.first as u16,
         ports.second as u16,
     )
+    .with_closing(seconds_of(closing))
 }

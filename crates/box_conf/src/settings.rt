@@ -18,6 +18,7 @@ pub struct Settings {
     pub inside: Option<Values>,
     pub outside: Option<Values>,
     pub ports: Option<Values>,
+    pub closing: Option<Values>,
     pub virtual_end: Option<Values>,
     /// The newest of the backends.
     pub backend: Option<Values>,
@@ -35,6 +36,7 @@ impl Settings {
             BoxLine::Inside => self.inside,
             BoxLine::Outside => self.outside,
             BoxLine::Ports => self.ports,
+            BoxLine::Closing => self.closing,
             BoxLine::Virtual => self.virtual_end,
             BoxLine::Backend => self.backend,
         }
@@ -64,6 +66,10 @@ impl Settings {
                 ..self
             },
             BoxLine::Ports => Settings { ports: set, ..self },
+            BoxLine::Closing => Settings {
+                closing: set,
+                ..self
+            },
             BoxLine::Virtual => Settings {
                 virtual_end: set,
                 ..self

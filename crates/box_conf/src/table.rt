@@ -14,6 +14,7 @@ pub enum BoxLine {
     Inside,
     Outside,
     Ports,
+    Closing,
     Virtual,
     Backend,
 }
@@ -91,6 +92,7 @@ impl BoxLine {
             BoxLine::Inside => b"inside",
             BoxLine::Outside => b"outside",
             BoxLine::Ports => b"ports",
+            BoxLine::Closing => b"closing",
             BoxLine::Virtual => b"virtual",
             BoxLine::Backend => b"backend",
         }
@@ -122,6 +124,10 @@ impl BoxLine {
                     high: 65_535,
                 },
             ),
+            BoxLine::Closing => Places::One(LinePlace::Number {
+                low: 1,
+                high: 4_294_967_295,
+            }),
             BoxLine::Virtual | BoxLine::Backend => Places::Two(
                 LinePlace::Address,
                 LinePlace::Number {
@@ -150,12 +156,14 @@ impl BoxLine {
             | BoxLine::Shards
             | BoxLine::Inside
             | BoxLine::Outside
+            | BoxLine::Closing
             | BoxLine::Virtual
             | BoxLine::Backend => true,
         }
     }
 
-    /// The values that hold where the line is not there. A line that has none has to stand.
+    /// The values that hold where the line is not there. A line that has none has to stand. `closing` is 0 then: no
+    /// connection is followed.
     pub fn usual(self) -> Option<Values>
         ensures { result ≡ option_map values_from (usual_of self) }
     {
@@ -165,6 +173,7 @@ impl BoxLine {
             BoxLine::Shards => (16, 0),
             BoxLine::Inside | BoxLine::Outside | BoxLine::Virtual | BoxLine::Backend => return None,
             BoxLine::Ports => (1024, 65_535),
+            BoxLine::Closing => (0, 0),
         };
         Some(Values { first, second })
     }

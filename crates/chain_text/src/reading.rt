@@ -1,6 +1,7 @@
-ghost use Rattle.std.specs.Prelude.{◌≡◌, ◌≤◌, Some, IfOk, IfErr};
+ghost use Rattle.std.specs.Prelude.{◌≡◌, ◌≤◌, All, Some, IfOk, IfErr};
 ghost use Rattle.plain_text.specs.declared.limit.TheConstants.{MOST_EVENTS as most_events};
 ghost use Rattle.plain_text.specs.Lines.{words_of};
+ghost use Rattle.chain_world.specs.Chain.{NamesSystem};
 ghost use Rattle.chain_text.specs.ChainScripts.{IsChainScript, IsRefused, SaysEvent, count_of};
 ghost use Rattle.chain_text.specs.ChainScripts.{event_fault};
 ghost use Rattle.chain_text.specs.ChainScripts.{system_of};
@@ -23,6 +24,7 @@ pub type ChainEvents = Sequence<ChainEvent>;
 /// there is one: another first word is an unknown one, and a line of one word lacks one.
 pub fn read_chain(alloc: Global, text: &[u8]) -> Result<ChainEvents, ReadError>
     ensures script { IfOk result (λ events. IsChainScript text.now events) }
+    ensures of_systems { IfOk result (All NamesSystem) }
     ensures few { IfOk result (λ events. count_of events ≤ most_events) }
     ensures refused { IfErr result (IsRefused text.now) }
 {

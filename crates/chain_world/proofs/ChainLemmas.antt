@@ -106,11 +106,11 @@ first_alone {V} {U} s r events lines c p = first_from s r (chain_opening V U) c 
 
 -- The promises
 
-waits_well : {V : Type 0} (s : Setting V) (w : World V) → Sound s w → WaitsForMissing w
+pub waits_well : {V : Type 0} (s : Setting V) (w : World V) → Sound s w → WaitsForMissing w
 waits_well s w h o among =
     let steps = finish_there s w h in (finish_ends s w steps.0 h steps.1).waits o among
 
-keeps_one : {V : Type 0} (s : Setting V) (events : List Event) (report : List ℕ) (released : List Packet)
+pub keeps_one : {V : Type 0} (s : Setting V) (events : List Event) (report : List ℕ) (released : List Packet)
     (moves : List PlainMove) → (l : Leaves s events report released moves) → KeepsOne s l.world released moves
 keeps_one s events report released moves l =
     let r = leaves_ends s events report released moves l in record {
@@ -125,7 +125,7 @@ keeps_one s events report released moves l =
 module _ {V U : Type 0} (s : Setting V) (r : Setting U) (events : List ChainEvent) (report : List ℕ)
     (middle released : List Packet) (first_moves second_moves : List PlainMove)
     (l : LeavesChain s r events report middle released first_moves second_moves) where
-  abbrev first_leaves : (said : List ℕ) → Performs s (opening V) (events_of 1 events) said l.worlds.first
+  abbrev pub first_leaves : (said : List ℕ) → Performs s (opening V) (events_of 1 events) said l.worlds.first
       → Leaves s (events_of 1 events) (said ++ done_line l.worlds.first) middle first_moves
   first_leaves said performs = record {
     world = l.worlds.first;
@@ -138,7 +138,7 @@ module _ {V U : Type 0} (s : Setting V) (r : Setting U) (events : List ChainEven
     schedule_is = l.first_moves_are;
   }
 
-  abbrev second_leaves : (p : IsPerformed (behind r l.worlds.first) l.worlds.second)
+  abbrev pub second_leaves : (p : IsPerformed (behind r l.worlds.first) l.worlds.second)
       → Leaves (behind r l.worlds.first) p.events (p.lines ++ done_line l.worlds.second) released second_moves
   second_leaves p = record {
     world = l.worlds.second;

@@ -13,6 +13,10 @@ use Rattle.recovery_world.specs.Finish.{IsFinish}
 use Rattle.recovery_world.specs.Files.{reply_line, done_line, packets_of, moves_made}
 use Rattle.chain_world.specs.declared.chain_event.ChainEvent.{ChainEvent}
 
+-- an event is one of the first system or of the second
+abbrev pub NamesSystem : ChainEvent → Type 0
+NamesSystem ev = (ev.which ≡ 1) ⊎ (ev.which ≡ 2)
+
 -- the worlds of both systems
 pub record Chained (V U : Type 0) : Type 0 where
   pub first : World V

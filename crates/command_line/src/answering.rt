@@ -64,7 +64,7 @@ pub fn perform<W: World, C: Clock + Sync, G: Gate + Sync, R: AllocGlobal + Threa
         OpensAll (inputs_of command) (W.ledger world.old) (W.ledger world.new)) }
     ensures opens_nothing { asked words.now ≡ None
         → (W.ledger world.new).opened_names ≡ (W.ledger world.old).opened_names }
-    ensures given { (W.ledger world.new).given ≤ (W.ledger world.old).given + 6 }
+    ensures given { (W.ledger world.new).given ≤ (W.ledger world.old).given + 8 }
     ensures read_fault { result ≡ Status.ReadFault
         → Rose (W.ledger world.old).read_faults (W.ledger world.new).read_faults }
     ensures write_fault { result ≡ Status.WriteFault

@@ -18,11 +18,13 @@ pub fn one_file<R: AllocGlobal + Files>(rt: &R, words: &[Text]) -> Option<(usize
     ensures differ { IfSome result (λ places. ¬ (places.0 ≡ places.1)) }
 {
     let start = line_start(words);
-    if !has_outputs(words.get(start..)?) {
+    let line = words.get(start..)?;
+    if !has_outputs(line) {
         return None;
     }
+    let inputs = words_before_outputs(line);
     for written in 0..words.len() {
-        if !is_written(start, written) {
+        if !is_written(start, inputs, written) {
             continue;
         }
         if let Some(other) = same_file(rt, words, start, written) {
@@ -40,7 +42,7 @@ pub(crate) fn line_start(words: &[Text]) -> usize {
     }
 }
 
-/// Whether the command has inputs and outputs, and its outputs stand from the fourth word behind it on.
+/// Whether the command has inputs and outputs, and its words are as many as they are to be.
 fn has_outputs(line: &[Text]) -> bool {
     let Some(command) = line.first() else {
         return false;
@@ -49,7 +51,22 @@ fn has_outputs(line: &[Text]) -> bool {
         "run" | "drill" => line.len() == 6,
         "live" => line.len() == 7,
         "play" | "trace" | "picture" => line.len() == 5,
+        "chain" => line.len() == 9,
         _ => false,
+    }
+}
+
+/// How many words stand behind the command and before its outputs: four of `chain`, and three of each other that has
+/// inputs and outputs.
+pub(crate) fn words_before_outputs(line: &[Text]) -> usize {
+    if is_chain(line) { 4 } else { 3 }
+}
+
+/// Whether the command is `chain`, of which a second box stands behind the first.
+pub(crate) fn is_chain(line: &[Text]) -> bool {
+    match line.first() {
+        Some(command) => command.as_str() == "chain",
+        None => false,
     }
 }
 
@@ -60,7 +77,7 @@ pub(crate) fn count_inputs(line: &[Text]) -> usize {
     };
     match command.as_str() {
         "run" | "live" | "play" | "trace" | "picture" => 3,
-        "check" => 4,
+        "check" | "chain" => 4,
         "drill" => 2,
         "watch" => 1,
         _ => 0,
@@ -84,9 +101,9 @@ fn is_number(words: &[Text], start: usize, place: usize) -> bool {
     command.as_str() == "drill" && place == start.saturating_add(3)
 }
 
-/// Whether it is the name of a file that is to be written.
-pub(crate) fn is_written(start: usize, place: usize) -> bool {
-    is_name(start, place) && (place < start || place - start >= 4)
+/// Whether it is the name of a file that is to be written, where so many words stand before the outputs.
+pub(crate) fn is_written(start: usize, inputs: usize, place: usize) -> bool {
+    is_name(start, place) && (place < start || place - start > inputs)
 }
 
 /// The place of another name of the file that the word at this place names.

@@ -1,12 +1,14 @@
+ghost use Rattle.std.specs.Prelude.{◌≤◌};
+
 mod boxes;
 mod captures;
 mod files;
 mod lines;
 mod nearest;
 
-use crate::names::{count_inputs, line_start, one_file};
+use crate::names::{count_inputs, is_chain, line_start, one_file, words_before_outputs};
 use job_commands::{InputFault, Status};
-use plain_text::Text;
+use plain_text::{LineCause, LineFault, Text};
 use std::io;
 use std::path::Path;
 use std::rt::Files;
@@ -66,8 +68,12 @@ fn tell_unread<R: AllocGlobal + Files + Eprint>(rt: &R, words: &[Text]) -> io::R
 /// Which of the outputs can't be written, and what the system says of it.
 fn tell_unwritten<R: AllocGlobal + Files + Eprint>(rt: &R, words: &[Text]) -> io::Result<()> {
     let start = line_start(words);
+    let inputs = match words.get(start..) {
+        Some(line) => words_before_outputs(line),
+        None => return Ok(()),
+    };
     for place in 0..words.len() {
-        if !crate::names::is_written(start, place) {
+        if !crate::names::is_written(start, inputs, place) {
             continue;
         }
         let name = words[place].as_str();
@@ -90,18 +96,16 @@ fn tell_fault<R: AllocGlobal + Files + Eprint>(
     words: &[Text],
     fault: InputFault,
 ) -> io::Result<()> {
+    let boxes = count_boxes(words);
     match fault {
-        InputFault::BoxFile(fault) => match input_name(words, 1) {
-            Some(name) if fault.cause == plain_text::LineCause::MissingLine => {
-                boxes::tell_missing(rt, name)
-            }
-            Some(name) => lines::tell_line(rt, name, fault),
-            None => Ok(()),
-        },
-        InputFault::Capture(fault) => captures::tell_pcap(rt, input_name(words, 2), fault),
-        InputFault::NgCapture(fault) => captures::tell_pcapng(rt, input_name(words, 2), fault),
+        InputFault::BoxFile(fault) => tell_box(rt, input_name(words, 1), fault),
+        InputFault::SecondBox(fault) => tell_box(rt, input_name(words, 2), fault),
+        InputFault::Capture(fault) => captures::tell_pcap(rt, input_name(words, boxes + 1), fault),
+        InputFault::NgCapture(fault) => {
+            captures::tell_pcapng(rt, input_name(words, boxes + 1), fault)
+        }
         InputFault::Script(fault) | InputFault::Plan(fault) | InputFault::Schedule(fault) => {
-            match input_name(words, 3) {
+            match input_name(words, boxes + 2) {
                 Some(name) => lines::tell_line(rt, name, fault),
                 None => Ok(()),
             }
@@ -109,6 +113,29 @@ fn tell_fault<R: AllocGlobal + Files + Eprint>(
         InputFault::Moves(_) => Ok(()),
         InputFault::Released(fault) => captures::tell_pcap(rt, input_name(words, 4), fault),
         InputFault::NgReleased(fault) => captures::tell_pcapng(rt, input_name(words, 4), fault),
+    }
+}
+
+/// What stands in a box file where it leaves its grammar.
+fn tell_box<R: AllocGlobal + Files + Eprint>(
+    rt: &R,
+    name: Option<&Text>,
+    fault: LineFault,
+) -> io::Result<()> {
+    match name {
+        Some(name) if fault.cause == LineCause::MissingLine => boxes::tell_missing(rt, name),
+        Some(name) => lines::tell_line(rt, name, fault),
+        None => Ok(()),
+    }
+}
+
+/// How many box files the command names: two where it is `chain`.
+fn count_boxes(words: &[Text]) -> usize
+    ensures { result ≤ 2 }
+{
+    match words.get(line_start(words)..) {
+        Some(line) if is_chain(line) => 2,
+        _ => 1,
     }
 }
 
@@ -126,7 +153,7 @@ fn input_name(words: &[Text], place: usize) -> Option<&Text> {
     line.get(place)
 }
 
-/// What makes no sense in the box file, if the command has one.
+/// What makes no sense in the box files, if the command has any.
 fn tell_of_box<R: AllocGlobal + Files + Eprint>(rt: &R, words: &[Text]) -> io::Result<()> {
     let Some(line) = words.get(line_start(words)..) else {
         return Ok(());
@@ -134,8 +161,8 @@ fn tell_of_box<R: AllocGlobal + Files + Eprint>(rt: &R, words: &[Text]) -> io::R
     if count_inputs(line) < 2 {
         return Ok(());
     }
-    match line.get(1) {
-        Some(name) => boxes::warn(rt, name),
-        None => Ok(()),
+    for name in line.iter().skip(1).take(count_boxes(words)) {
+        boxes::warn(rt, name)?;
     }
+    Ok(())
 }

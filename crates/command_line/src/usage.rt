@@ -57,6 +57,18 @@ Performs a script as `run` does, and draws it.
   PICTURE   SVG: each thread's moves, what arrived, waited and was released,
             crashes and epochs; of more than 400 moves an overview, written
 
+ftmb chain BOX1 BOX2 CAPTURE SCRIPT MIDDLE RELEASED SCHEDULE1 SCHEDULE2
+
+Performs a script of two boxes. What the first releases comes in to the second,
+in order of release.
+
+  SCRIPT    text, a line each, read: `1` or `2`, which says whose event it is,
+            and then an event as of `run`
+  MIDDLE    capture of the packets that the first released, written
+  RELEASED  capture of the packets that the second released, written
+  SCHEDULE1, SCHEDULE2
+            text of the moves of the one and of the other, written
+
 ftmb tap NAME .. run BOX CAPTURE SCRIPT RELEASED SCHEDULE
 ftmb tap NAME .. live BOX CAPTURE PLAN RELEASED SCHEDULE SCRIPT
 

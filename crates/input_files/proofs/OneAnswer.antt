@@ -20,6 +20,9 @@ use Rattle.box_conf.proofs.OneFile as box_file
 use Rattle.recovery_world.specs.declared.event.Event.{Event}
 use Rattle.script_text.specs.Scripts.{script_form}
 use Rattle.script_text.proofs.OneLine.{events_are_decisive}
+use Rattle.chain_text.specs.ChainScripts.{chain_form}
+use Rattle.chain_text.proofs.OneEvent.{chain_is_decisive}
+use Rattle.chain_world.specs.declared.chain_event.ChainEvent.{ChainEvent}
 use Rattle.plan_script.specs.declared.plan.PlanLine.{PlanLine}
 use Rattle.plan_text.specs.Plans.{plan_form}
 use Rattle.plan_text.proofs.OneLine.{lines_are_decisive}
@@ -31,7 +34,7 @@ use Rattle.input_files.specs.declared.capture_file.Capture.{Capture}
 use Rattle.input_files.specs.declared.errors.InputError.{InputError}
 use Rattle.input_files.specs.declared.errors.InputError.TheVariants as error
 use Rattle.input_files.specs.Answers.{SaysBox, SaysFile, SaysScript, SaysSchedule, SaysPlan, SaysCapture, BoxPasses}
-use Rattle.input_files.specs.Answers.{LinesPass}
+use Rattle.input_files.specs.Answers.{LinesPass, SaysChain}
 use Rattle.input_files.specs.Answers.{MayGoOn, SaysNoFault}
 use Rattle.input_files.specs.Files.{IsMissing}
 use Rattle.input_files.specs.Judging.{Judges, IsDecided}
@@ -216,6 +219,10 @@ module _ {A : Type 0} (form : LineForm A) (decisive : IsDecisive form) where
 pub one_script : (bytes : List ℕ) (a b : Result (List Event) (InputError LineFault)) → OfBytes a → OfBytes b
     → SaysScript bytes a → SaysScript bytes b → a ≡ b
 one_script = one_file script_form events_are_decisive
+
+pub one_chain : (bytes : List ℕ) (a b : Result (List ChainEvent) (InputError LineFault)) → OfBytes a → OfBytes b
+    → SaysChain bytes a → SaysChain bytes b → a ≡ b
+one_chain = one_file chain_form chain_is_decisive
 
 pub one_schedule : (bytes : List ℕ) (a b : Result (List PlainMove) (InputError LineFault)) → OfBytes a → OfBytes b
     → SaysSchedule bytes a → SaysSchedule bytes b → a ≡ b

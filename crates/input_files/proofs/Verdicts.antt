@@ -1,5 +1,6 @@
 -- What the readers of texts answer, of the front of a file, is so of the file.
 use Rattle.std.proofs.Common.{◌≡◌, ℕ, ◌<◌, ◌≤◌, List, sym, ap, ◌∙◌, subst, arith, Result, Ok, Err}
+use Rattle.std.specs.Prelude.{All as Each, IfOk}
 use Rattle.plain_text.specs.declared.fault.LineCause.TheVariants.{MissingLine}
 use Rattle.plain_text.specs.declared.fault.LineFault.{LineFault}
 use Rattle.plain_text.specs.declared.limit.Limit.{Limit}
@@ -9,6 +10,10 @@ use Rattle.plain_text.specs.LineFiles.{LineForm, IsDecisive, IsFile, count_of}
 use Rattle.plain_text.proofs.WholeFiles as files
 use Rattle.world_io.specs.declared.beginning.Front.TheVariants.{All, More}
 use Rattle.world_io.specs.World.{Shown}
+use Rattle.chain_text.specs.ChainScripts.{chain_form}
+use Rattle.chain_text.proofs.OneEvent.{all_named}
+use Rattle.chain_world.specs.Chain.{NamesSystem}
+use Rattle.chain_world.specs.declared.chain_event.ChainEvent.{ChainEvent}
 use Rattle.box_conf.specs.declared.kind.BoxConf.{BoxConf}
 use Rattle.box_conf.specs.BoxFile.{IsBoxFile}
 use Rattle.box_conf.specs.BoxFile as box
@@ -112,3 +117,17 @@ module _ {A : Type 0} (form : LineForm A) where
   file_judged healthy name shown (Err (error.TooLarge passed)) told = told
   file_judged healthy name shown (Err error.ReadFault) told = absurd told.2
   file_judged healthy name shown (Err error.NoMemory) told = tt
+
+  -- the things that lines say are those of some text
+  abbrev pub OfText : Result (List A) (InputError LineFault) → Type 0
+  OfText r = IfOk r (λ things. (text : List ℕ) × IsFile form text things)
+
+  pub lines_of_text : (text : List ℕ) (r : Result (List A) (InputError LineFault)) → SaysLines form text r → OfText r
+  lines_of_text text (Ok things) says = (text, says.0)
+  lines_of_text text (Err e) says = tt
+
+-- the events of the script of a chain are those of its systems
+pub of_systems : (r : Result (List ChainEvent) (InputError LineFault)) → OfText chain_form r
+    → IfOk r (Each NamesSystem)
+of_systems (Ok events) is = all_named {E = InputError LineFault} (Ok events) is.0 is.1
+of_systems (Err e) is = tt

@@ -19,6 +19,8 @@ use Rattle.box_conf.specs.BoxFile.{IsBoxFile}
 use Rattle.box_conf.specs.BoxFile as box
 use Rattle.recovery_world.specs.declared.event.Event.{Event}
 use Rattle.script_text.specs.Scripts.{script_form}
+use Rattle.chain_text.specs.ChainScripts.{chain_form}
+use Rattle.chain_world.specs.declared.chain_event.ChainEvent.{ChainEvent}
 use Rattle.plain_machine.specs.declared.plain_move.PlainMove.{PlainMove}
 use Rattle.plain_player.specs.Schedules.{schedule_form}
 use Rattle.plan_script.specs.declared.plan.PlanLine.{PlanLine}
@@ -82,6 +84,9 @@ SaysFile form bytes (Err error.NoMemory) = Unit {0}
 
 abbrev pub SaysScript : List ℕ → Result (List Event) (InputError LineFault) → Type 0
 SaysScript bytes answer = SaysFile script_form bytes answer
+
+abbrev pub SaysChain : List ℕ → Result (List ChainEvent) (InputError LineFault) → Type 0
+SaysChain bytes answer = SaysFile chain_form bytes answer
 
 abbrev pub SaysSchedule : List ℕ → Result (List PlainMove) (InputError LineFault) → Type 0
 SaysSchedule bytes answer = SaysFile schedule_form bytes answer

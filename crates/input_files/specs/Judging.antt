@@ -5,13 +5,14 @@ use Rattle.plain_text.specs.declared.limit.Limit.{Limit}
 use Rattle.pcapng_io.specs.declared.fault.AnyFault.{AnyFault}
 use Rattle.box_conf.specs.declared.kind.BoxConf.{BoxConf}
 use Rattle.recovery_world.specs.declared.event.Event.{Event}
+use Rattle.chain_world.specs.declared.chain_event.ChainEvent.{ChainEvent}
 use Rattle.plain_machine.specs.declared.plain_move.PlainMove.{PlainMove}
 use Rattle.plan_script.specs.declared.plan.PlanLine.{PlanLine}
 use Rattle.world_io.specs.World.{Shown}
 use Rattle.input_files.specs.declared.capture_file.Capture.{Capture}
 use Rattle.input_files.specs.declared.errors.InputError.{InputError}
 use Rattle.input_files.specs.declared.errors.InputError.TheVariants as error
-use Rattle.input_files.specs.Answers.{SaysBox, SaysScript, SaysSchedule, SaysPlan, SaysCapture}
+use Rattle.input_files.specs.Answers.{SaysBox, SaysScript, SaysChain, SaysSchedule, SaysPlan, SaysCapture}
 use Rattle.input_files.specs.Files.{IsMissing}
 
 -- the name is there, and this is said of its bytes
@@ -35,6 +36,15 @@ FaultsScript name fault shown = IsToldOf name (λ bytes. SaysScript bytes (Err (
 
 abbrev pub ScriptTooLarge : List ℕ → Limit → Shown → Type 0
 ScriptTooLarge name limit shown = IsToldOf name (λ bytes. SaysScript bytes (Err (error.TooLarge limit))) shown
+
+abbrev pub AcceptsChain : List ℕ → List ChainEvent → Shown → Type 0
+AcceptsChain name events shown = IsToldOf name (λ bytes. SaysChain bytes (Ok events)) shown
+
+abbrev pub FaultsChain : List ℕ → LineFault → Shown → Type 0
+FaultsChain name fault shown = IsToldOf name (λ bytes. SaysChain bytes (Err (error.Fault fault))) shown
+
+abbrev pub ChainTooLarge : List ℕ → Limit → Shown → Type 0
+ChainTooLarge name limit shown = IsToldOf name (λ bytes. SaysChain bytes (Err (error.TooLarge limit))) shown
 
 abbrev pub AcceptsPlan : List ℕ → List PlanLine → Shown → Type 0
 AcceptsPlan name lines shown = IsToldOf name (λ bytes. SaysPlan bytes (Ok lines)) shown
@@ -73,6 +83,9 @@ JudgesBox healthy name answer shown = Judges SaysBox healthy name answer shown
 
 abbrev pub JudgesScript : Type 0 → List ℕ → Result (List Event) (InputError LineFault) → Shown → Type 0
 JudgesScript healthy name answer shown = Judges SaysScript healthy name answer shown
+
+abbrev pub JudgesChain : Type 0 → List ℕ → Result (List ChainEvent) (InputError LineFault) → Shown → Type 0
+JudgesChain healthy name answer shown = Judges SaysChain healthy name answer shown
 
 abbrev pub JudgesSchedule : Type 0 → List ℕ → Result (List PlainMove) (InputError LineFault) → Shown → Type 0
 JudgesSchedule healthy name answer shown = Judges SaysSchedule healthy name answer shown

@@ -4,13 +4,14 @@ ghost use Rattle.plain_text.specs.declared.fault.LineFault.{LineFault};
 ghost use Rattle.pcapng_io.specs.declared.fault.AnyFault.{AnyFault};
 ghost use Rattle.box_conf.specs.declared.kind.BoxConf.{BoxConf};
 ghost use Rattle.recovery_world.specs.declared.event.Event.{Event};
+ghost use Rattle.chain_world.specs.declared.chain_event.ChainEvent.{ChainEvent};
 ghost use Rattle.plain_machine.specs.declared.plain_move.PlainMove.{PlainMove};
 ghost use Rattle.plan_script.specs.declared.plan.PlanLine.{PlanLine};
 ghost use Rattle.world_io.specs.World.{Shown};
 ghost use Rattle.input_files.specs.declared.capture_file.Capture.{Capture};
 ghost use Rattle.input_files.specs.declared.errors.InputError.{InputError};
 ghost use Rattle.input_files.specs.Judging.{JudgesBox, JudgesCapture, JudgesSchedule, JudgesScript};
-ghost use Rattle.input_files.specs.Judging.{JudgesPlan, IsDecided};
+ghost use Rattle.input_files.specs.Judging.{JudgesChain, JudgesPlan, IsDecided};
 
 /// A file decides the answer to it: the answers exclude each other, so each comes exactly where what it says is true,
 /// unless memory runs out or, in a world that is not healthy, reading fails.
@@ -29,6 +30,11 @@ pub fn each_file_has_one_answer()
         (a b : Result (List Event) (InputError LineFault)) → IsDecided (IsTrue healthy) a
         → IsDecided (IsTrue healthy) b
         → JudgesScript (IsTrue healthy) name a shown → JudgesScript (IsTrue healthy) name b shown
+        → a ≡ b }
+    ensures chain { (healthy : Bool) (name : List ℕ) (shown : Shown)
+        (a b : Result (List ChainEvent) (InputError LineFault)) → IsDecided (IsTrue healthy) a
+        → IsDecided (IsTrue healthy) b
+        → JudgesChain (IsTrue healthy) name a shown → JudgesChain (IsTrue healthy) name b shown
         → a ≡ b }
     ensures schedule { (healthy : Bool) (name : List ℕ) (shown : Shown)
         (a b : Result (List PlainMove) (InputError LineFault))

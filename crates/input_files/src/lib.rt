@@ -3,6 +3,7 @@
 
 mod box_file;
 mod capture_file;
+mod chain_file;
 mod errors;
 mod laws;
 mod lines_file;
@@ -13,6 +14,7 @@ mod texts;
 
 pub use box_file::read_box_file;
 pub use capture_file::{Capture, read_capture_file};
+pub use chain_file::read_chain_file;
 pub use errors::InputError;
 pub use laws::each_file_has_one_answer;
 pub use plan_file::read_plan_file;

@@ -1,5 +1,5 @@
-ghost use Rattle.std.specs.Prelude.{◌<◌, ◌-◌, ◌^◌, ◌∷◌, [], OnOk, IsErrOf, List, ℕ};
-ghost use Rattle.plain_text.specs.LineFiles.{IsDecisive};
+ghost use Rattle.std.specs.Prelude.{◌<◌, ◌-◌, ◌^◌, ◌∷◌, [], IfOk, OnOk, IsErrOf, List, ℕ};
+ghost use Rattle.plain_text.specs.LineFiles.{IsDecisive, IsFile};
 ghost use Rattle.world_io.specs.Stream.{Rose};
 ghost use Rattle.world_io.specs.World.{Start};
 ghost use Rattle.input_files.specs.Answers.{SaysFile, SaysLines};
@@ -24,6 +24,7 @@ pub(crate) fn read_lines_file<W: World, F: LineFile>(
 ) -> Result<Sequence<F::Thing>, InputError<LineFault>>
     requires opens { (W.ledger world.old).given < 2 ^ 32 - 1 }
     requires decisive { IsDecisive F.form }
+    ensures of_text { IfOk result (λ things. (text : List ℕ) × IsFile F.form text things) }
     ensures only_reads { OnlyReads W.ledger W.healthy (name.now ∷ []) world.old world.new }
     ensures opened { OnOk result
         (OpensAll (name.now ∷ []) (W.ledger world.old) (W.ledger world.new)) }
@@ -46,6 +47,7 @@ fn judge_front<F: LineFile>(
 ) -> Result<Sequence<F::Thing>, InputError<LineFault>>
     requires decisive { IsDecisive F.form }
     ensures says { (bytes : List ℕ) → IsFrontOf front.now bytes → SaysFile F.form bytes result }
+    ensures of_text { IfOk result (λ things. (text : List ℕ) × IsFile F.form text things) }
     ensures quiet { ¬ IsErrOf result InputError.ReadFault }
 {
     match front {

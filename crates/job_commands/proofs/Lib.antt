@@ -14,3 +14,5 @@ pub mod RunChecked
 pub mod Failing
 pub mod ThreeFiles
 pub mod LiveFiles
+pub mod ChainFiles
+pub mod ChainFaults

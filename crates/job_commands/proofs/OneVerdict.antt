@@ -89,6 +89,7 @@ module _ (healthy : Type 0) (names : RunNames) (shown : Shown) where
   verdict status.WriteFault decided h = absurd (h.0 (decided.1.1 refl))
   verdict status.NoMemory decided h = absurd (decided.0 refl)
   verdict (status.BadInput (input.BoxFile fault)) decided h = OfBox (error.Fault fault) tt h refl
+  verdict (status.BadInput (input.SecondBox fault)) decided h = absurd h
   verdict (status.BadInput (input.Capture fault)) decided (conf, box, h) =
       OfCapture conf box (error.Fault (any.Capture fault)) tt h refl
   verdict (status.BadInput (input.NgCapture fault)) decided (conf, box, h) =

@@ -7,7 +7,7 @@ use Rattle.input_files.specs.Judging.{Judges as JudgesFile, IsDecided as FileDec
 use Rattle.job_commands.specs.declared.status.Status.{Status}
 use Rattle.job_commands.specs.Judging.{IsDecided}
 use Rattle.job_commands.specs.Status.{of_box_error, of_capture_error, of_plan_error, of_schedule_error}
-use Rattle.job_commands.specs.Status.{of_released_error}
+use Rattle.job_commands.specs.Status.{of_released_error, of_script_error, of_second_box_error}
 use Rattle.job_commands.specs.Turns.{InTurn}
 
 -- the two answers to one file are the same
@@ -72,6 +72,18 @@ capture_decides healthy (error.Fault fault) d = tt
 capture_decides healthy (error.TooLarge limit) d = tt
 capture_decides healthy error.ReadFault d = d.1.0 refl
 capture_decides healthy error.NoMemory d = absurd (d.0 refl)
+
+pub second_box_decides : (healthy : Type 0) → Decides healthy of_second_box_error
+second_box_decides healthy (error.Fault fault) d = tt
+second_box_decides healthy (error.TooLarge limit) d = tt
+second_box_decides healthy error.ReadFault d = d.1.0 refl
+second_box_decides healthy error.NoMemory d = absurd (d.0 refl)
+
+pub script_decides : (healthy : Type 0) → Decides healthy of_script_error
+script_decides healthy (error.Fault fault) d = tt
+script_decides healthy (error.TooLarge limit) d = tt
+script_decides healthy error.ReadFault d = d.1.0 refl
+script_decides healthy error.NoMemory d = absurd (d.0 refl)
 
 pub plan_decides : (healthy : Type 0) → Decides healthy of_plan_error
 plan_decides healthy (error.Fault fault) d = tt

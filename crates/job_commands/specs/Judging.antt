@@ -24,6 +24,7 @@ Judges healthy names status.ReadFault shown = healthy → FirstIsMissing names.b
 Judges healthy names status.WriteFault shown = (healthy → ⊥) × (inputs : Inputs) × AcceptsInputs names inputs shown
 Judges healthy names status.NoMemory shown = Unit {0}
 Judges healthy names (status.BadInput (input.BoxFile fault)) shown = FaultsBox names.box_file fault shown
+Judges healthy names (status.BadInput (input.SecondBox fault)) shown = ⊥
 Judges healthy names (status.BadInput (input.Capture fault)) shown =
     BehindBox names.box_file shown (FaultsCapture names.capture (any.Capture fault) shown)
 Judges healthy names (status.BadInput (input.NgCapture fault)) shown =

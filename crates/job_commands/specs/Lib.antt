@@ -7,4 +7,6 @@ pub mod Run
 pub mod Turns
 pub mod Schedules
 pub mod Live
+pub mod Chain
+pub mod ChainWords
 pub mod Checked

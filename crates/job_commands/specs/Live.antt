@@ -50,6 +50,7 @@ SaysOfFiles healthy names status.ReadFault shown =
 SaysOfFiles healthy names status.WriteFault shown = ⊥
 SaysOfFiles healthy names status.NoMemory shown = Unit {0}
 SaysOfFiles healthy names (status.BadInput (input.BoxFile fault)) shown = FaultsBox names.box_file fault shown
+SaysOfFiles healthy names (status.BadInput (input.SecondBox fault)) shown = ⊥
 SaysOfFiles healthy names (status.BadInput (input.Capture fault)) shown =
     BehindBox names.box_file shown (FaultsCapture names.capture (any.Capture fault) shown)
 SaysOfFiles healthy names (status.BadInput (input.NgCapture fault)) shown =

@@ -16,8 +16,8 @@ use Rattle.schedule_check.specs.declared.checking.Refutation.{Refutation}
 use Rattle.schedule_commands.specs.declared.error.ScheduleError.{ScheduleError}
 use Rattle.schedule_commands.specs.declared.error.ScheduleError.TheVariants as of_schedule
 use Rattle.job_commands.specs.declared.status.InputFault.{InputFault}
-use Rattle.job_commands.specs.declared.status.InputFault.TheVariants.{BoxFile, Capture, NgCapture, Script, Schedule}
-use Rattle.job_commands.specs.declared.status.InputFault.TheVariants.{Plan, Moves, Released, NgReleased}
+use Rattle.job_commands.specs.declared.status.InputFault.TheVariants.{BoxFile, SecondBox, Capture, NgCapture, Script}
+use Rattle.job_commands.specs.declared.status.InputFault.TheVariants.{Plan, Schedule, Moves, Released, NgReleased}
 use Rattle.job_commands.specs.declared.status.Status.{Status}
 use Rattle.job_commands.specs.declared.status.Status.TheVariants.{Done, Refuted, BadWords, ReadFault, WriteFault}
 use Rattle.job_commands.specs.declared.status.Status.TheVariants.{NoMemory, BadInput, TooLarge}
@@ -91,6 +91,12 @@ of_box_error of_input.ReadFault = ReadFault
 of_box_error of_input.NoMemory = NoMemory
 of_box_error (of_input.TooLarge limit) = TooLarge limit
 of_box_error (of_input.Fault fault) = BadInput (BoxFile fault)
+
+abbrev pub of_second_box_error : InputError LineFault → Status
+of_second_box_error of_input.ReadFault = ReadFault
+of_second_box_error of_input.NoMemory = NoMemory
+of_second_box_error (of_input.TooLarge limit) = TooLarge limit
+of_second_box_error (of_input.Fault fault) = BadInput (SecondBox fault)
 
 abbrev pub of_script_error : InputError LineFault → Status
 of_script_error of_input.ReadFault = ReadFault

@@ -13,8 +13,8 @@ use Rattle.plain_machine.specs.declared.plain_move.PlayCause.TheVariants as move
 use Rattle.schedule_check.specs.declared.checking.Refutation.{Refutation}
 use Rattle.schedule_check.specs.declared.checking.Refutation.TheVariants as refuted
 use Rattle.job_commands.specs.declared.status.InputFault.{InputFault}
-use Rattle.job_commands.specs.declared.status.InputFault.TheVariants.{BoxFile, Capture, NgCapture, Script, Schedule}
-use Rattle.job_commands.specs.declared.status.InputFault.TheVariants.{Plan, Moves, Released, NgReleased}
+use Rattle.job_commands.specs.declared.status.InputFault.TheVariants.{BoxFile, SecondBox, Capture, NgCapture, Script}
+use Rattle.job_commands.specs.declared.status.InputFault.TheVariants.{Plan, Schedule, Moves, Released, NgReleased}
 use Rattle.job_commands.specs.declared.status.Status.{Status}
 use Rattle.job_commands.specs.declared.status.Status.TheVariants.{Done, Refuted, BadWords, ReadFault, WriteFault}
 use Rattle.job_commands.specs.declared.status.Status.TheVariants.{NoMemory, BadInput, TooLarge}
@@ -63,6 +63,8 @@ limit_text OutputBytes = codes "output bytes"
 -- the line, the offset or the move at which an input leaves its grammar, and why
 abbrev pub fault_text : InputFault → List ℕ
 fault_text (BoxFile fault) = codes "bad input: box: line " ++ decimal fault.line ++ codes ": " ++ cause_text fault.cause
+fault_text (SecondBox fault) =
+    codes "bad input: second box: line " ++ decimal fault.line ++ codes ": " ++ cause_text fault.cause
 fault_text (Capture fault) =
     codes "bad input: capture: offset " ++ decimal fault.offset ++ codes ": " ++ capture_cause_text fault.cause
 fault_text (Script fault) =

@@ -13,6 +13,7 @@ use Rattle.job_commands.specs.declared.schedule_words.CheckWords.{CheckWords}
 use Rattle.job_commands.specs.declared.drill_words.DrillWords.{DrillWords}
 use Rattle.job_commands.specs.declared.trace_words.TraceWords.{TraceWords}
 use Rattle.job_commands.specs.declared.picture_words.PictureWords.{PictureWords}
+use Rattle.job_commands.specs.ChainWords.{ChainNames, chain_inputs, chain_names, chain_names_of}
 use Rattle.job_commands.specs.declared.command.Command as command_words
 use Rattle.job_commands.specs.declared.command.Command.TheVariants as words
 
@@ -294,25 +295,28 @@ pub data Asked : Type 0 where
   Drills : DrillNames → Asked
   Traces : TraceNames → Asked
   Draws : PictureNames → Asked
+  Chains : ChainNames → Asked
 
 -- the one command whose names are there; no words are those of two
 abbrev pub one_of : Option RunNames → Option LiveNames → Option MakeNames → Option PlayNames → Option CheckNames
-    → Option DrillNames → Option TraceNames → Option PictureNames → Option Asked
-one_of (Some names) live make play check drill trace picture = Some (Runs names)
-one_of None (Some names) make play check drill trace picture = Some (Lives names)
-one_of None None (Some names) play check drill trace picture = Some (Makes names)
-one_of None None None (Some names) check drill trace picture = Some (Plays names)
-one_of None None None None (Some names) drill trace picture = Some (Checks names)
-one_of None None None None None (Some names) trace picture = Some (Drills names)
-one_of None None None None None None (Some names) picture = Some (Traces names)
-one_of None None None None None None None (Some names) = Some (Draws names)
-one_of None None None None None None None None = None
+    → Option DrillNames → Option TraceNames → Option PictureNames → Option ChainNames → Option Asked
+one_of (Some names) live make play check drill trace picture chain = Some (Runs names)
+one_of None (Some names) make play check drill trace picture chain = Some (Lives names)
+one_of None None (Some names) play check drill trace picture chain = Some (Makes names)
+one_of None None None (Some names) check drill trace picture chain = Some (Plays names)
+one_of None None None None (Some names) drill trace picture chain = Some (Checks names)
+one_of None None None None None (Some names) trace picture chain = Some (Drills names)
+one_of None None None None None None (Some names) picture chain = Some (Traces names)
+one_of None None None None None None None (Some names) chain = Some (Draws names)
+one_of None None None None None None None None (Some names) = Some (Chains names)
+one_of None None None None None None None None None = None
 
--- the command that words ask for: `run`, `live`, `make`, `play`, `check`, `drill`, `trace` or `picture`
+-- the command that words ask for: `run`, `live`, `make`, `play`, `check`, `drill`, `trace`, `picture` or
+-- `chain`
 abbrev pub asked : List (List ℕ) → Option Asked
 asked words =
     one_of (run_names words) (live_names words) (make_names words) (play_names words) (check_names words)
-    (drill_names words) (trace_names words) (picture_names words)
+    (drill_names words) (trace_names words) (picture_names words) (chain_names words)
 
 -- where the words ask for a command, this is so of it
 abbrev pub IfAsks : List (List ℕ) → (Asked → Type 0) → Type 0
@@ -327,6 +331,7 @@ asked_of (words.Check w) = Checks (check_names_of w)
 asked_of (words.Drill w) = Drills (drill_names_of w)
 asked_of (words.Trace w) = Traces (trace_names_of w)
 asked_of (words.Picture w) = Draws (picture_names_of w)
+asked_of (words.Chain w) = Chains (chain_names_of w)
 
 -- The names of the input files of a command, in the order of its words, which is the order in which they are read
 
@@ -355,3 +360,4 @@ inputs_of (Checks names) = check_inputs names
 inputs_of (Drills names) = drill_inputs names
 inputs_of (Traces names) = run_inputs (traced_run names)
 inputs_of (Draws names) = run_inputs (pictured_run names)
+inputs_of (Chains names) = chain_inputs names

@@ -2,9 +2,9 @@ ghost use Rattle.std.specs.Prelude.{◌≡◌, MatchOption, None, Some};
 ghost use Rattle.job_commands.specs.Words.{asked, asked_of};
 
 use crate::{
-    CheckWords, DrillWords, LiveWords, MakeWords, PictureWords, PlayWords, RunWords, TraceWords,
-    read_check_words, read_drill_words, read_live_words, read_make_words, read_picture_words,
-    read_play_words, read_run_words, read_trace_words,
+    ChainWords, CheckWords, DrillWords, LiveWords, MakeWords, PictureWords, PlayWords, RunWords,
+    TraceWords, read_chain_words, read_check_words, read_drill_words, read_live_words,
+    read_make_words, read_picture_words, read_play_words, read_run_words, read_trace_words,
 };
 use plain_text::Text;
 
@@ -19,6 +19,7 @@ pub enum Command<'a> {
     Drill(DrillWords<'a>),
     Trace(TraceWords<'a>),
     Picture(PictureWords<'a>),
+    Chain(ChainWords<'a>),
 }
 
 /// The command that the words ask for. None where they are no command's.
@@ -47,6 +48,9 @@ pub fn read_command(words: &[Text]) -> Option<Command<'_>>
     if let Some(names) = read_trace_words(words) {
         return Some(Command::Trace(names));
     }
-    let names = read_picture_words(words)?;
-    Some(Command::Picture(names))
+    if let Some(names) = read_picture_words(words) {
+        return Some(Command::Picture(names));
+    }
+    let names = read_chain_words(words)?;
+    Some(Command::Chain(names))
 }

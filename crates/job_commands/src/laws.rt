@@ -13,6 +13,8 @@ ghost use Rattle.input_files.specs.declared.capture_file.Capture.{Capture};
 ghost use Rattle.input_files.specs.Judging.{AcceptsCapture};
 ghost use Rattle.job_commands.specs.declared.status.Status.{Status};
 ghost use Rattle.job_commands.specs.Judging.{Judges, IsDecided};
+ghost use Rattle.job_commands.specs.Chain.{JudgesChainInputs, SaysOfChainFiles};
+ghost use Rattle.job_commands.specs.ChainWords.{ChainNames};
 ghost use Rattle.job_commands.specs.Live.{JudgesLiveInputs, SaysOfFiles};
 ghost use Rattle.job_commands.specs.Schedules.{JudgesCheck, JudgesPlay};
 ghost use Rattle.run_writes.specs.Run.{HasRun};
@@ -37,8 +39,8 @@ pub fn one_verdict()
         → JudgesCheck (IsTrue healthy) names r shown → s ≡ r }
 {}
 
-/// A status with which reading the inputs of `live` ends says of the files which is the first that is not accepted, and
-/// why; and of those statuses that they decide at most one is true of them.
+/// A status with which reading the inputs of `live` or of `chain` ends says of the files which is the first that is not
+/// accepted, and why; and of those statuses that they decide at most one is true of them.
 pub fn what_refused_inputs_say()
     ensures says { (healthy : Bool) (names : LiveNames) (s : Status) (shown : Shown)
         → JudgesLiveInputs (IsTrue healthy) names (Err s) shown
@@ -47,6 +49,13 @@ pub fn what_refused_inputs_say()
         → IsDecided (IsTrue healthy) s → IsDecided (IsTrue healthy) r
         → JudgesLiveInputs (IsTrue healthy) names (Err s) shown
         → JudgesLiveInputs (IsTrue healthy) names (Err r) shown → s ≡ r }
+    ensures chain_says { (healthy : Bool) (names : ChainNames) (s : Status) (shown : Shown)
+        → JudgesChainInputs (IsTrue healthy) names (Err s) shown
+        → SaysOfChainFiles (IsTrue healthy) names s shown }
+    ensures chain_one { (healthy : Bool) (names : ChainNames) (s r : Status) (shown : Shown)
+        → IsDecided (IsTrue healthy) s → IsDecided (IsTrue healthy) r
+        → JudgesChainInputs (IsTrue healthy) names (Err s) shown
+        → JudgesChainInputs (IsTrue healthy) names (Err r) shown → s ≡ r }
 {}
 
 /// What `run` leaves is accepted by `check`, with the same box and the same capture: the check of the schedule and the

@@ -1,7 +1,9 @@
 //! The commands of FTMB beside the top call: their words and statuses, `make`, `play` and `check`, the inputs of `run`,
-//! `trace`, `picture`, `live` and `drill`, and the laws.
+//! `trace`, `picture`, `live`, `drill` and `chain`, and the laws.
 #![tactic(auto)]
 
+mod chain_inputs;
+mod chain_words;
 mod checking;
 mod command;
 mod drill_words;
@@ -21,6 +23,8 @@ mod status;
 mod text;
 mod trace_words;
 
+pub use chain_inputs::{Boxes, ChainInputs, ChainSource, read_chain_inputs};
+pub use chain_words::{ChainWords, read_chain_words};
 pub use checking::check_released;
 pub use command::{Command, read_command};
 pub use drill_words::{DrillWords, read_drill_words};

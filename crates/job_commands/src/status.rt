@@ -1,7 +1,7 @@
 ghost use Rattle.std.specs.Prelude.{◌≡◌};
 ghost use Rattle.job_commands.specs.Status.{exit_code_of, of_box_error, of_capture_error};
 ghost use Rattle.job_commands.specs.Status.{of_plan_error, of_released_error, of_schedule_error};
-ghost use Rattle.job_commands.specs.Status.{of_script_error};
+ghost use Rattle.job_commands.specs.Status.{of_script_error, of_second_box_error};
 ghost use Rattle.job_commands.specs.Status.{check_outcome as check_outcome_of, outcome_of};
 ghost use Rattle.job_commands.specs.Status.{play_outcome as play_outcome_of};
 ghost use Rattle.job_commands.specs.Status.{run_outcome as run_outcome_of};
@@ -21,6 +21,8 @@ use schedule_commands::ScheduleError;
 pub enum InputFault {
     /// The text that chooses the box.
     BoxFile(LineFault),
+    /// The text that chooses the second box of a chain.
+    SecondBox(LineFault),
     /// The capture of the packets that come in, as a libpcap savefile.
     Capture(CaptureFault),
     /// The same, as a pcapng capture.
@@ -101,6 +103,18 @@ pub fn box_status(error: InputError<LineFault>) -> Status
         InputError::ReadFault => Status::ReadFault,
         InputError::TooLarge(limit) => Status::TooLarge(limit),
         InputError::Fault(fault) => Status::BadInput(InputFault::BoxFile(fault)),
+        InputError::NoMemory => Status::NoMemory,
+    }
+}
+
+/// What a command comes to whose second box file is not accepted.
+pub fn second_box_status(error: InputError<LineFault>) -> Status
+    ensures { result ≡ of_second_box_error error }
+{
+    match error {
+        InputError::ReadFault => Status::ReadFault,
+        InputError::TooLarge(limit) => Status::TooLarge(limit),
+        InputError::Fault(fault) => Status::BadInput(InputFault::SecondBox(fault)),
         InputError::NoMemory => Status::NoMemory,
     }
 }

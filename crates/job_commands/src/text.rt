@@ -25,6 +25,10 @@ impl fmt::Display for StatusText {
                 let cause = line_cause(cause);
                 write!(f, "bad input: box: line {line}: {cause}")
             }
+            Status::BadInput(InputFault::SecondBox(LineFault { line, cause })) => {
+                let cause = line_cause(cause);
+                write!(f, "bad input: second box: line {line}: {cause}")
+            }
             Status::BadInput(InputFault::Capture(CaptureFault { offset, cause })) => {
                 let cause = capture_cause(cause);
                 write!(f, "bad input: capture: offset {offset}: {cause}")

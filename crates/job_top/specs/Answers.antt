@@ -40,5 +40,5 @@ pub record Answers {W : Type 0} (honest : Start → W → Type 0) (shows : Start
   pub write_fault : status ≡ WriteFault → Rose (ledger old).write_faults (ledger new).write_faults
   pub opens_in_order : IfAsks words (λ command. OpensFirst (inputs_of command) (ledger old) (ledger new))
   pub opens_all : status ≡ Done → IfAsks words (λ command. OpensAll (inputs_of command) (ledger old) (ledger new))
-  pub given : (ledger new).given ≤ (ledger old).given + 6
+  pub given : (ledger new).given ≤ (ledger old).given + 8
   pub before : (p : Start) → honest p new → honest p old

@@ -19,7 +19,10 @@ use Rattle.job_commands.specs.Run.{RunsWhole, RunsToLimit, RunsInOrder, outputs_
 use Rattle.job_commands.specs.Schedules.{AcceptsScheduleInputs, AcceptsCheckInputs, JudgesPlay, JudgesCheck, PlaysWhole}
 use Rattle.job_commands.specs.Schedules.{PlaysInOrder, FindsAll, FindsInOrder}
 use Rattle.job_commands.specs.Status.{AtOutputs, ComesAt, Completes, Stage, stage_of, stage_of_limit}
-use Rattle.job_commands.specs.Words.{Asked, Runs, Lives, Makes, Plays, Checks, Drills, Traces, Draws, pictured_run}
+use Rattle.job_commands.specs.Words.{Asked, Runs, Lives, Makes, Plays, Checks, Drills, Traces, Draws, Chains}
+use Rattle.job_commands.specs.Words.{pictured_run}
+use Rattle.job_top.specs.Chain.{AreAcceptedForChain, ChainsInOrder, ChainsToLimit, ChainsWhole, JudgesChain}
+use Rattle.job_top.specs.Chain.{KeepsChainNames}
 use Rattle.job_top.specs.Drill.{AreAcceptedForDrill, DrillsInOrder, DrillsToLimit, DrillsWhole, JudgesDrill}
 use Rattle.job_top.specs.Drill.{drill_outputs}
 use Rattle.job_top.specs.Trace.{AreAcceptedForTrace, JudgesTrace, KeepsTraceNames, TracesInOrder, TracesToLimit}
@@ -37,9 +40,10 @@ Leaves may (Checks names) old new = FindsAll names old new
 Leaves may (Drills names) old new = DrillsWhole names old new
 Leaves may (Traces names) old new = TracesWhole names old new
 Leaves may (Draws names) old new = DrawsWhole names old new
+Leaves may (Chains names) old new = ChainsWhole names old new
 
--- What the command leaves that stopped at this limit. Of `run` and `drill` the limits of runs come once their inputs
--- are accepted; of `live` those of files and events may, too; of no other command one comes then.
+-- What the command leaves that stopped at this limit. Of `run`, `drill` and `chain` the limits of runs come once
+-- their inputs are accepted; of `live` those of files and events may, too; of no other command one comes then.
 abbrev pub StopsAtLimit : Asked → Limit → Shown → Shown → Type 0
 StopsAtLimit (Runs names) limit old new = stage_of_limit limit ≡ AtOutputs → RunsToLimit names limit old new
 StopsAtLimit (Lives names) limit old new = LivesLimit names limit old new
@@ -49,6 +53,7 @@ StopsAtLimit (Checks names) limit old new = stage_of_limit limit ≡ AtOutputs �
 StopsAtLimit (Drills names) limit old new = stage_of_limit limit ≡ AtOutputs → DrillsToLimit names limit old new
 StopsAtLimit (Traces names) limit old new = stage_of_limit limit ≡ AtOutputs → TracesToLimit names limit old new
 StopsAtLimit (Draws names) limit old new = stage_of_limit limit ≡ AtOutputs → DrawsToLimit names limit old new
+StopsAtLimit (Chains names) limit old new = stage_of_limit limit ≡ AtOutputs → ChainsToLimit names limit old new
 
 -- the stage at which a status of the command comes; a limit of `live` may be passed at any time
 abbrev pub stage_in : Asked → Status → Stage
@@ -60,6 +65,7 @@ stage_in (Checks names) status = stage_of status
 stage_in (Drills names) status = stage_of status
 stage_in (Traces names) status = stage_of status
 stage_in (Draws names) status = stage_of status
+stage_in (Chains names) status = stage_of status
 
 -- some first part of what the command gives was written, in its order
 abbrev pub LeavesInOrder : Asked → Shown → Shown → Type 0
@@ -71,6 +77,7 @@ LeavesInOrder (Checks names) old new = FindsInOrder names old new
 LeavesInOrder (Drills names) old new = DrillsInOrder names old new
 LeavesInOrder (Traces names) old new = TracesInOrder names old new
 LeavesInOrder (Draws names) old new = DrawsInOrder names old new
+LeavesInOrder (Chains names) old new = ChainsInOrder names old new
 
 -- what the status says of the input files, and of the run or of what is played, where the world may be healthy; `make`
 -- has no inputs
@@ -83,9 +90,10 @@ JudgesInputsOf healthy (Checks names) status shown = JudgesCheck healthy names s
 JudgesInputsOf healthy (Drills names) status shown = JudgesDrill healthy names status shown
 JudgesInputsOf healthy (Traces names) status shown = JudgesTrace healthy names status shown
 JudgesInputsOf healthy (Draws names) status shown = Judges healthy (pictured_run names) status shown
+JudgesInputsOf healthy (Chains names) status shown = JudgesChain healthy names status shown
 
--- the inputs of the command are there, are accepted and pass no limit, and nor does the run of a script, the drill
--- or the trace
+-- the inputs of the command are there, are accepted and pass no limit, and nor does the run of a script, the
+-- drill, the trace or the chain
 abbrev pub AcceptsInputsOf : Asked → Shown → Type 0
 AcceptsInputsOf (Runs names) shown = AreAccepted names shown
 AcceptsInputsOf (Lives names) shown = (inputs : LiveInputs) × AcceptsLiveInputs names inputs shown
@@ -95,6 +103,7 @@ AcceptsInputsOf (Checks names) shown = (inputs : CheckInputs) × AcceptsCheckInp
 AcceptsInputsOf (Drills names) shown = AreAcceptedForDrill names shown
 AcceptsInputsOf (Traces names) shown = AreAcceptedForTrace names shown
 AcceptsInputsOf (Draws names) shown = AreAccepted (pictured_run names) shown
+AcceptsInputsOf (Chains names) shown = AreAcceptedForChain names shown
 
 -- What a command comes to whose inputs are accepted: it is done, or memory ran out; or `live` names a limit, which a
 -- script of its plan passes; or `play` the first illegal move of the schedule, or `check` what it refutes.
@@ -107,6 +116,7 @@ CompletesAs (Checks names) status = Completes status ⊎ ((refutation : Refutati
 CompletesAs (Drills names) status = Completes status
 CompletesAs (Traces names) status = Completes status
 CompletesAs (Draws names) status = Completes status
+CompletesAs (Chains names) status = Completes status
 
 -- names that are no output of the command are as they were
 abbrev pub KeepsNames : Asked → Shown → Shown → Type 0
@@ -118,3 +128,4 @@ KeepsNames (Checks names) old new = (name : List ℕ) → new.names name ≡ old
 KeepsNames (Drills names) old new = KeepsOthers (drill_outputs names) old new
 KeepsNames (Traces names) old new = KeepsTraceNames names old new
 KeepsNames (Draws names) old new = KeepsPictureNames names old new
+KeepsNames (Chains names) old new = KeepsChainNames names old new

@@ -24,7 +24,12 @@ use Rattle.job_commands.specs.declared.live_inputs.LiveInputs.{LiveInputs}
 use Rattle.job_commands.specs.Live.{AcceptsLiveInputs}
 use Rattle.job_commands.specs.Run.{AcceptsInputs, outputs_of, setting_for}
 use Rattle.job_commands.specs.Words.{RunNames, LiveNames, DrillNames, Asked, Runs, Lives, Makes, Plays}
-use Rattle.job_commands.specs.Words.{Checks, Drills, Draws, Traces}
+use Rattle.job_commands.specs.Words.{Checks, Drills, Draws, Traces, Chains}
+use Rattle.job_commands.specs.declared.chain_inputs.ChainInputs.{ChainInputs}
+use Rattle.job_commands.specs.Chain.{AcceptsChainInputs}
+use Rattle.job_commands.specs.ChainWords.{ChainNames}
+use Rattle.chain_command.specs.Headline.{KeepsChainPromise as KeepsBothPromises}
+use Rattle.job_top.specs.Chain.{chain_outputs, first_of, second_of}
 use Rattle.job_top.specs.Drill.{AcceptsDrillInputs, drill_outputs, drill_setting}
 use Rattle.job_top.specs.Live.{live_outputs, live_setting}
 
@@ -76,6 +81,13 @@ pub record KeepsDrillPromise (names : DrillNames) (old new : Shown) : Type 0 whe
       KeepsPromise (drill_setting names inputs) (drill_outputs names)
       (drill_events names.every (length inputs.capture.packets)) new
 
+-- The promise of `chain`, however the events of its two systems are mixed: that of a system alone, of the first on the
+-- captured packets with SCHEDULE1 and MIDDLE, and of the second on the packets of MIDDLE with SCHEDULE2 and RELEASED.
+pub record KeepsChainPromise (names : ChainNames) (old new : Shown) : Type 0 where
+  pub inputs : ChainInputs
+  pub accepted : AcceptsChainInputs names inputs old
+  pub keeps : KeepsBothPromises (first_of inputs) (second_of inputs) (chain_outputs names) inputs.events new
+
 abbrev pub KeepsPromiseOf : Asked → Shown → Shown → Type 0
 KeepsPromiseOf (Runs names) old new = KeepsRunPromise names old new
 KeepsPromiseOf (Lives names) old new = KeepsLivePromise names old new
@@ -85,3 +97,4 @@ KeepsPromiseOf (Checks names) old new = Unit {0}
 KeepsPromiseOf (Drills names) old new = KeepsDrillPromise names old new
 KeepsPromiseOf (Traces names) old new = Unit {0}
 KeepsPromiseOf (Draws names) old new = Unit {0}
+KeepsPromiseOf (Chains names) old new = KeepsChainPromise names old new

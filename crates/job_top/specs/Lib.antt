@@ -1,4 +1,5 @@
 pub mod Answers
+pub mod Chain
 pub mod Commands
 pub mod Drill
 pub mod Headline

@@ -1,6 +1,7 @@
 //! The top call: the commands of FTMB over any world.
 #![tactic(auto)]
 
+mod chain;
 mod drill;
 mod live;
 mod picture;

@@ -17,6 +17,7 @@ ghost use Rattle.job_commands.specs.Words.{asked, IfAsks, inputs_of, live_names}
 ghost use Rattle.job_commands.specs.Words.{names_of, run_inputs};
 ghost use Rattle.world_io.specs.World.{Start, WritingFailed};
 
+use crate::chain::chain;
 use crate::drill::drill;
 use crate::live::live;
 use crate::picture::picture;
@@ -168,7 +169,7 @@ pub fn serial<W: World>(alloc: Global, words: &[Text], world: &mut W) -> Status
         OpensFirst (inputs_of command) (W.ledger world.old) (W.ledger world.new)) }
     ensures opens_all { result ≡ Status.Done → IfAsks words.now (λ command.
         OpensAll (inputs_of command) (W.ledger world.old) (W.ledger world.new)) }
-    ensures given { (W.ledger world.new).given ≤ (W.ledger world.old).given + 5 }
+    ensures given { (W.ledger world.new).given ≤ (W.ledger world.old).given + 8 }
     ensures before { (p : Start) → W.honest p world.new → W.honest p world.old }
 {
     match read_command(words) {
@@ -179,6 +180,7 @@ pub fn serial<W: World>(alloc: Global, words: &[Text], world: &mut W) -> Status
         Some(Command::Drill(names)) => drill(alloc, world, names),
         Some(Command::Trace(names)) => trace(alloc, world, names),
         Some(Command::Picture(names)) => picture(alloc, world, names),
+        Some(Command::Chain(names)) => chain(alloc, world, names),
         Some(Command::Live(_)) => unreachable!(),
         None => Status::BadWords,
     }
@@ -228,6 +230,13 @@ pub fn serial<W: World>(alloc: Global, words: &[Text], world: &mut W) -> Status
 /// overview. The report is the last line of that of `run`. PICTURE is created when all is done; where the run would
 /// pass a limit, nothing is written.
 ///
+/// `chain BOX1 BOX2 CAPTURE SCRIPT MIDDLE RELEASED SCHEDULE1 SCHEDULE2`, eight names of files of which the four outputs
+/// differ: two boxes are run, each by its own events of the script, the first on the packets of the capture, and the
+/// second on what the first released, in order of release. MIDDLE is the capture of what the first released, RELEASED
+/// that of what the second did, and SCHEDULE1 and SCHEDULE2 are the moves of the runs in which they end. The report has
+/// a line for each event, with the number of its box, and a last one for each box. The outputs are created, in their
+/// order, only when all input files are accepted, and each event is written as that of `run`.
+///
 /// What the clauses say of bytes they say by each beginning, the bytes that stood under each name then, for which the
 /// world's answers were honest: those of files with these bytes.
 ///
@@ -235,7 +244,7 @@ pub fn serial<W: World>(alloc: Global, words: &[Text], world: &mut W) -> Status
 /// and that passes no limit, is done, unless memory runs out or the schedule or the released packets are refused. There
 /// a read fault says that the first input that is not accepted is not there.
 ///
-/// A world that has given fewer than 2^31 numbers has room for the files of any command, which are six at most.
+/// A world that has given fewer than 2^31 numbers has room for the files of any command, which are eight at most.
 pub fn ftmb<W: World, C: Clock + Sync, G: Gate + Sync, R: AllocGlobal + Threads + Wait + Sync>(
     rt: &R,
     words: &[Text],
@@ -291,7 +300,7 @@ pub fn ftmb<W: World, C: Clock + Sync, G: Gate + Sync, R: AllocGlobal + Threads 
         OpensFirst (inputs_of command) (W.ledger world.old) (W.ledger world.new)) }
     ensures opens_all { result ≡ Status.Done → IfAsks words.now (λ command.
         OpensAll (inputs_of command) (W.ledger world.old) (W.ledger world.new)) }
-    ensures given { (W.ledger world.new).given ≤ (W.ledger world.old).given + 6 }
+    ensures given { (W.ledger world.new).given ≤ (W.ledger world.old).given + 8 }
     ensures before { (p : Start) → W.honest p world.new → W.honest p world.old }
 {
     match read_live_words(words) {

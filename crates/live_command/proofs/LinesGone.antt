@@ -7,6 +7,7 @@ use Rattle.rand_pcg.specs.Lcg.{Lcg}
 use Rattle.plain_machine.specs.Program.{Meaning}
 use Rattle.world_io.specs.World.{Shown}
 use Rattle.recovery_world.specs.declared.event.Event.{Event}
+use Rattle.recovery_world.specs.declared.event.Event.TheVariants as event
 use Rattle.recovery_world.specs.Many.{Message}
 use Rattle.recovery_world.specs.World.{Setting, World as SystemWorld, opening}
 use Rattle.recovery_core.specs.Systems.{Systemed}
@@ -26,7 +27,7 @@ use Rattle.live_writes.specs.Script.{Scripted}
 use Rattle.live_writes.specs.Told.{FailsLive, HasBegunLive}
 use Rattle.live_command.specs.declared.standing.Standing.{Standing}
 use Rattle.live_command.specs.Going.{GoesLine, GoesOver, GoesRound, GoesSettle, GoesToldRound, HasLivedTo, SameOrders}
-use Rattle.live_command.specs.Going.{standing_in}
+use Rattle.live_command.specs.Going.{event_of_line, standing_in}
 use Rattle.live_command.specs.Plans.{GoesPlan}
 use Rattle.live_command.specs.Telling.{IsLiveScript, IsToldPart, LiveEnds}
 use Rattle.live_command.proofs.EventsGone.{fails_same, lived_same}
@@ -92,8 +93,14 @@ line_same {P} {V} r m n s names may w asked ln draws events after lines x old no
 module _ {P V : Type 0} (m : Meaning V) (s : Setting V) (names : LiveOutputs) (may : ℕ → Type 0) (w : SystemWorld V)
     (asked : Orders) (draws : List Lcg) (events : List Event) (after : Orders) (lines : List ℕ) (x : Scripted)
     (old now : Shown) where
+  event_there : (r : Result (Standing P V) RunError) (one ev : Event) (y : Systemed P V) → one ≡ ev
+      → GoesOver r m s names w events (ev ∷ []) (standing_in r y) lines x old now
+      → GoesOver r m s names w events (one ∷ []) (standing_in r y) lines x old now
+  event_there r one ev y is goes =
+      subst (λ (e : Event). GoesOver r m s names w events (e ∷ []) (standing_in r y) lines x old now) (sym is) goes
+
   -- a line of one event
-  pub line_one : (r : Result (Standing P V) RunError) (ln : PlanLine) (ev : Event) (y : Systemed P V)
+  line_one : (r : Result (Standing P V) RunError) (ln : PlanLine) (ev : Event) (y : Systemed P V)
       → ((next : SystemWorld V) (end : List Lcg) → Does s w (ev ∷ []) next → end ≡ draws
       → IsToldPart s may w asked ln (ev ∷ []) next draws end)
       → ((first : List Event) → AreFirstOf (ev ∷ []) first → BeginsPart s w asked ln first)
@@ -103,6 +110,32 @@ module _ {P V : Type 0} (m : Meaning V) (s : Setting V) (names : LiveOutputs) (m
   line_one (Ok z) ln ev y part begins same given (next, does, lived) =
       (ev ∷ [], next, part next z.draws does given, same, lived)
   line_one (Err e) ln ev y part begins same given (first, is, fails) = (first, begins first is, fails)
+
+  -- a line that is one event, whatever the orders and the world
+  pub line_single : (r : Result (Standing P V) RunError) (ln : PlanLine) (ev : Event) (y : Systemed P V)
+      → event_of_line ln ≡ Some ev → SameOrders asked after → IfOk r (λ z. z.draws ≡ draws)
+      → GoesOver r m s names w events (ev ∷ []) (standing_in r y) lines x old now
+      → GoesLine r m s names may w asked ln draws events after lines x old now
+  line_single r (line.Feed n) ev y is same given goes =
+      line_one r (line.Feed n) (event.Feed n) y (λ next end does kept. ((refl, does), kept)) (λ first begins. begins)
+      same given (event_there r (event.Feed n) ev y (let e : event.Feed n ≡ ev = cc in e) goes)
+  line_single r line.Snap ev y is same given goes =
+      line_one r line.Snap event.Snap y (λ next end does kept. ((refl, does), kept)) (λ first begins. begins)
+      same given (event_there r event.Snap ev y (let e : event.Snap ≡ ev = cc in e) goes)
+  line_single r line.Store ev y is same given goes =
+      line_one r line.Store event.Store y (λ next end does kept. ((refl, does), kept)) (λ first begins. begins)
+      same given (event_there r event.Store ev y (let e : event.Store ≡ ev = cc in e) goes)
+  line_single r line.Crash ev y is same given goes =
+      line_one r line.Crash event.Crash y (λ next end does kept. ((refl, does), kept)) (λ first begins. begins)
+      same given (event_there r event.Crash ev y (let e : event.Crash ≡ ev = cc in e) goes)
+  line_single r line.Recover ev y is same given goes =
+      line_one r line.Recover event.Recover y (λ next end does kept. ((refl, does), kept)) (λ first begins. begins)
+      same given (event_there r event.Recover ev y (let e : event.Recover ≡ ev = cc in e) goes)
+  line_single r (line.Limit t n) ev y is same given goes = absurd (cc)
+  line_single r (line.Take t n) ev y is same given goes = absurd (cc)
+  line_single r (line.Lose k t n) ev y is same given goes = absurd (cc)
+  line_single r line.Round ev y is same given goes = absurd (cc)
+  line_single r line.Settle ev y is same given goes = absurd (cc)
 
   -- a line of none
   pub line_none : (z : Standing P V) (ln : PlanLine) → IsToldPart s may w asked ln [] w draws z.draws

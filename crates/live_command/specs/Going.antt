@@ -1,16 +1,18 @@
 -- A run by a plan goes on: what performing its events, its rounds and its lines came to.
-use Rattle.std.specs.Prelude.{◌≡◌, ℕ, ◌<◌, ◌≤◌, true, List, ◌++◌, Result, Ok, Err}
+use Rattle.std.specs.Prelude.{◌≡◌, ℕ, ◌<◌, ◌≤◌, true, List, ◌++◌, Option, Some, None, Result, Ok, Err}
 use Rattle.plain_text.specs.declared.limit.Limit.{Limit}
 use Rattle.rand_pcg.specs.Lcg.{Lcg}
 use Rattle.plain_machine.specs.Program.{Meaning}
 use Rattle.world_io.specs.World.{Shown}
 use Rattle.recovery_world.specs.declared.event.Event.{Event}
+use Rattle.recovery_world.specs.declared.event.Event.TheVariants as event
 use Rattle.recovery_world.specs.Many.{Message}
 use Rattle.recovery_world.specs.World.{Setting, World as SystemWorld}
 use Rattle.recovery_core.specs.Systems.{Systemed}
 use Rattle.run_writes.specs.declared.error.RunError.{RunError}
 use Rattle.run_command.specs.Running.{IsSystemAt}
 use Rattle.plan_script.specs.declared.plan.PlanLine.{PlanLine}
+use Rattle.plan_script.specs.declared.plan.PlanLine.TheVariants as line
 use Rattle.plan_script.specs.Orders.{Orders, orders_after}
 use Rattle.plain_machine.specs.declared.plain_move.PlainMove.{PlainMove}
 use Rattle.plain_machine.specs.History.{Step}
@@ -80,6 +82,19 @@ GoesSettle {P} {V} (Ok y) m s names may w draws events lines x old now =
     × HasLivedTo m s names (events ++ part) next y.system lines x old now
 GoesSettle (Err error) m s names may w draws events lines x old now =
     (part : List Event) × BeginsSettle s w part × FailsLive error s names (events ++ part) old now
+
+-- the event that a line is, where it is one event whatever the orders and the world
+abbrev pub event_of_line : PlanLine → Option Event
+event_of_line (line.Feed n) = Some (event.Feed n)
+event_of_line (line.Limit t n) = None
+event_of_line (line.Take t n) = None
+event_of_line (line.Lose k t n) = None
+event_of_line line.Round = None
+event_of_line line.Snap = Some event.Snap
+event_of_line line.Store = Some event.Store
+event_of_line line.Crash = Some event.Crash
+event_of_line line.Recover = Some event.Recover
+event_of_line line.Settle = None
 
 -- A line of the plan did.
 abbrev pub GoesLine : {P V : Type 0} → Result (Standing P V) RunError → Meaning V → Setting V → LiveOutputs

@@ -16,7 +16,7 @@ ghost use Rattle.live_workers.specs.Draws.{generators_of};
 ghost use Rattle.live_writes.specs.Outputs.{AreApart, LiveOutputs};
 ghost use Rattle.live_writes.specs.Told.{AreOpen};
 ghost use Rattle.live_command.specs.Going.{GoesLine, GoesOver, GoesToldRound, HasLivedTo};
-ghost use Rattle.live_command.specs.Going.{SameOrders, standing_in};
+ghost use Rattle.live_command.specs.Going.{SameOrders, event_of_line, standing_in};
 ghost use Rattle.live_command.specs.Plans.{GoesPlan};
 ghost use Rattle.recovery_world.specs.World.{opening};
 
@@ -205,16 +205,10 @@ fn perform_line<
     ensures before { (p : Start) → W.honest p world.new → W.honest p world.old }
 {
     let alloc = rt.alloc();
+    if let Some(event) = event_of(&line) {
+        return tell_one(alloc, world, files, lines, script, standing, &event);
+    }
     match line {
-        PlanLine::Feed(count) => tell_one(
-            alloc,
-            world,
-            files,
-            lines,
-            script,
-            standing,
-            &Event::Feed(count),
-        ),
         PlanLine::Limit { thread, moves } => {
             orders.limit(thread, moves);
             Ok(standing)
@@ -242,24 +236,27 @@ fn perform_line<
                 rt, world, files, lines, script, standing, &asked, clock, gate,
             )
         }
-        PlanLine::Snap => tell_one(alloc, world, files, lines, script, standing, &Event::Snap),
-        PlanLine::Store => tell_one(alloc, world, files, lines, script, standing, &Event::Store),
-        PlanLine::Crash => tell_one(alloc, world, files, lines, script, standing, &Event::Crash),
-        PlanLine::Recover => tell_one(
-            alloc,
-            world,
-            files,
-            lines,
-            script,
-            standing,
-            &Event::Recover,
-        ),
         PlanLine::Settle => {
             *orders = RoundOrders::none(alloc);
             settle(
                 rt, world, files, lines, script, standing, threads, clock, gate,
             )
         }
+        _ => unreachable!(),
+    }
+}
+
+/// The event that a line is, where it is one event whatever the orders and the world.
+fn event_of(line: &PlanLine) -> Option<Event>
+    ensures { result ≡ event_of_line line.now }
+{
+    match *line {
+        PlanLine::Feed(count) => Some(Event::Feed(count)),
+        PlanLine::Snap => Some(Event::Snap),
+        PlanLine::Store => Some(Event::Store),
+        PlanLine::Crash => Some(Event::Crash),
+        PlanLine::Recover => Some(Event::Recover),
+        _ => None,
     }
 }
 

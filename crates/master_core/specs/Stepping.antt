@@ -6,6 +6,7 @@ use Rattle.entry_order.specs.Stamps.{IsStamp, IsOutputStamp}
 use Rattle.access_log.specs.declared.entry.StampedEntry.{StampedEntry}
 use Rattle.access_log.specs.declared.entry.Output.{Output}
 use Rattle.plain_machine.specs.declared.emission.Emission.{Emission}
+use Rattle.plain_machine.specs.declared.local.Local.{Local}
 use Rattle.plain_machine.specs.declared.local.Move.{Move}
 use Rattle.plain_machine.specs.declared.local.Move.TheVariants as move
 use Rattle.plain_machine.specs.declared.plain_move.PlainMove.{PlainMove}
@@ -18,6 +19,11 @@ use Rattle.master_core.specs.declared.wants.Wants.{Wants}
 use Rattle.master_core.specs.declared.wants.Wants.TheVariants as wants
 use Rattle.master_core.specs.Mastered.{Mastered}
 use Rattle.master_core.specs.MasterStanding.{Stands}
+
+-- the program's next move with the packet in hand; none where there is none
+abbrev pub next_with : {V : Type 0} → Meaning V → Option Local → Option Move
+next_with m None = None
+next_with m (Some place) = Some (m.next place)
 
 -- what a thread wants that made this number of entries, after this log, where the program's next move is this
 abbrev pub wanted_by : ℕ → List Entry → Move → Wants

@@ -10,7 +10,8 @@ ghost use Rattle.access_log.specs.declared.entry.Turn.TheVariants as turn_of;
 ghost use Rattle.master_core.specs.Mastered.{value_of, place_in_hand, input_in_hand, HasRoom};
 ghost use Rattle.master_core.specs.Mastered.{HasHand, HasNoHand, WantsVariable};
 ghost use Rattle.master_core.specs.MasterStanding.{Stands};
-ghost use Rattle.master_core.specs.Stepping.{wanted, move_of, Follows, MadeNone, MadeOne};
+ghost use Rattle.master_core.specs.Stepping.{wanted, next_with, move_of, Follows};
+ghost use Rattle.master_core.specs.Stepping.{MadeNone, MadeOne};
 ghost use Rattle.master_core.specs.Effects.{HasFresh, DoneTake, DoneTouch, DoneLook, DoneHear};
 ghost use Rattle.master_core.specs.Effects.{DoneEmit, DoneEnd, HasPlayed};
 
@@ -72,21 +73,35 @@ impl<P: Program> Master<P> {
         Ok(Master { vars, threads })
     }
 
-    /// What the thread does next.
-    pub fn wants(&self, program: &P, thread: u32) -> Wants
+    /// The program's next move with the packet that the thread has in hand; `None` exactly where it has none.
+    pub fn next_move(&self, program: &P, thread: u32) -> Option<Move>
+        requires thread_in { thread < length self.now.threads }
+        ensures { HoldsAt (λ part. result ≡ next_with (P.meaning program.now) part.hand)
+            self.now.threads thread }
+    {
+        match self.threads[thread as usize].hand {
+            Some(place) => Some(program.next(&place)),
+            None => None,
+        }
+    }
+
+    /// What the thread does next, where `next` is the program's next move.
+    pub fn wants_by(&self, program: &P, thread: u32, next: Option<Move>) -> Wants
         requires program { FitsProgram (P.meaning program.now) (P.fits program.now)
             value_of self.now.vars }
         requires thread_in { thread < length self.now.threads }
+        requires next { HoldsAt (λ part. next ≡ next_with (P.meaning program.now) part.hand)
+            self.now.threads thread }
         ensures wanted { (threads : ℕ) (steps : List (Step P.Value)) →
             Stands (P.meaning program.now) threads steps self.now
             → result ≡ wanted (P.meaning program.now) steps thread }
     {
         let part = self.threads[thread as usize];
-        let Some(place) = part.hand else {
+        let Some(next) = next else {
             return Wants::Take(part.counts.taken + 1);
         };
         let number = part.counts.entries + 1;
-        match program.next(&place) {
+        match next {
             Move::Access(var) => Wants::Touch {
                 number,
                 var,
@@ -102,6 +117,18 @@ impl<P: Program> Master<P> {
             Move::Emit => Wants::Emit,
             Move::End => Wants::End,
         }
+    }
+
+    /// What the thread does next.
+    pub fn wants(&self, program: &P, thread: u32) -> Wants
+        requires program { FitsProgram (P.meaning program.now) (P.fits program.now)
+            value_of self.now.vars }
+        requires thread_in { thread < length self.now.threads }
+        ensures wanted { (threads : ℕ) (steps : List (Step P.Value)) →
+            Stands (P.meaning program.now) threads steps self.now
+            → result ≡ wanted (P.meaning program.now) steps thread }
+    {
+        self.wants_by(program, thread, self.next_move(program, thread))
     }
 
     /// How many inputs the thread took, moves it logged and packets it sent out.
@@ -200,6 +227,61 @@ impl<P: Program> Master<P> {
             → moves_left (P.meaning program.now) (place_in_hand self.new thread)
             < moves_left (P.meaning program.now) (place_in_hand self.old thread) }
     {
+        let next = self.next_move(program, thread);
+        self.make(alloc, program, thread, next, turn, answer, input)
+    }
+
+    /// Makes one move of the thread, as `step` does, where `next` is the program's next move: the program is not asked
+    /// for it again.
+    pub fn make(
+        &mut self,
+        alloc: Global,
+        program: &P,
+        thread: u32,
+        next: Option<Move>,
+        turn: Turn,
+        answer: u64,
+        input: Option<&Packet>,
+    ) -> Stepped
+        requires program { FitsProgram (P.meaning program.now) (P.fits program.now)
+            value_of self.old.vars }
+        requires thread_in { thread < length self.old.threads }
+        requires room { HasRoom self.old thread }
+        requires input { IsTrue (has_hand (place_in_hand self.old thread)) → IsSome input }
+        requires next { HoldsAt (λ part. next ≡ next_with (P.meaning program.now) part.hand)
+            self.old.threads thread }
+
+        // A move is that of the definition, and the master stands for the history with it.
+        ensures follows { (inputs : ℕ → List packet_of.Packet) (threads : ℕ)
+            (steps : List (Step P.Value)) → Stands (P.meaning program.now) threads steps self.old
+            → IsInputAfter inputs thread steps (option_copied input.entry)
+            → Follows (P.meaning program.now) inputs threads steps
+            (move_of (P.meaning program.now) steps thread answer) result self.new }
+        ensures as_long { (output : output_of.Output) (packet : packet_of.Packet)
+            → result ≡ Stepped.Emitted output → option_copied input.entry ≡ Some packet
+            → length output.packet.bytes ≡ length packet.bytes }
+
+        // When no move is made.
+        ensures idle { (result ≡ Stepped.Idle)
+            ↔ ((has_hand (place_in_hand self.old thread) ≡ false)
+            × (option_copied input.entry ≡ None)) }
+        ensures not_turn { (u n : ℕ) → (result ≡ Stepped.NotTurn u n)
+            ↔ (WantsVariable (P.meaning program.now) (place_in_hand self.old thread)
+            × (turn ≡ turn_of.Wait u n)) }
+        ensures unchanged { MadeNone result → self.new ≡ self.old }
+
+        // What stays.
+        ensures threads { length self.new.threads ≡ length self.old.threads }
+        ensures fits { FitsProgram (P.meaning program.now) (P.fits program.now)
+            value_of self.new.vars }
+
+        // What the thread has left to do with a packet.
+        ensures begins { has_hand (place_in_hand self.old thread) ≡ false → MadeOne result
+            → moves_left (P.meaning program.now) (place_in_hand self.new thread) ≤ 63 }
+        ensures falls { IsTrue (has_hand (place_in_hand self.old thread)) → MadeOne result
+            → moves_left (P.meaning program.now) (place_in_hand self.new thread)
+            < moves_left (P.meaning program.now) (place_in_hand self.old thread) }
+    {
         let Some(place) = self.threads[thread as usize].hand else {
             let Some(packet) = input else {
                 return Stepped::Idle;
@@ -207,7 +289,8 @@ impl<P: Program> Master<P> {
             return self.take(program, thread, packet);
         };
         let packet = input.unwrap();
-        self.play(alloc, program, thread, place, turn, answer, packet)
+        let next = next.unwrap();
+        self.play(alloc, program, thread, place, next, turn, answer, packet)
     }
 
     /// Makes the move that is next with the packet in hand.
@@ -217,6 +300,7 @@ impl<P: Program> Master<P> {
         program: &P,
         thread: u32,
         place: Local,
+        next: Move,
         turn: Turn,
         answer: u64,
         packet: &Packet,
@@ -226,10 +310,11 @@ impl<P: Program> Master<P> {
         requires thread_in { thread < length self.old.threads }
         requires room { HasRoom self.old thread }
         requires hand { HasHand self.old thread place }
+        requires next { (P.meaning program.now).next place ≡ next }
         ensures { HoldsAt (λ part. HasPlayed (P.meaning program.now) thread turn answer packet.now
             place part self.old result self.new) self.old.threads thread }
     {
-        match program.next(&place) {
+        match next {
             Move::Access(var) => match turn {
                 Turn::Wait { thread, number } => Stepped::NotTurn { thread, number },
                 Turn::Follow | Turn::Free => self.touch(alloc, program, thread, place, var),

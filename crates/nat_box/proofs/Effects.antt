@@ -6,6 +6,7 @@ use Rattle.std.proofs.lemmas.Bool.Decides.{nat_tests}
 use Rattle.nat_tables.specs.declared.entries.Endpoint.{Endpoint}
 use Rattle.nat_tables.specs.declared.entries.PortKey.{PortKey}
 use Rattle.nat_tables.specs.declared.slot.Slot.{Slot}
+use Rattle.nat_tables.specs.declared.phase.Phase.TheVariants.{Plain}
 use Rattle.nat_tables.specs.Ports.{PoolPorts, reserve, give_back, one_if, free_of, of_range}
 use Rattle.nat_tables.specs.Keys.{same_endpoint, same_port, port_key}
 use Rattle.nat_tables.specs.Forwards.{Forwards, is_idle, slot_of, refresh, without, first_idle, without_idle}
@@ -337,7 +338,7 @@ module _ (s : Settings) (some : 1 ≤ s.shards) (k : PortKey) (e : Endpoint) (th
           same = omega (arith, sound.same, mf, qf, t.1);
         }
     bind_by None is shift owns =
-        let slot : Slot = record { port = n.port; last = n.time } in
+        let slot : Slot = record { port = n.port; last = n.time; phase = Plain } in
         let left : Forwards = es ++ (n.source, slot) ∷ [] in
         let a : total (maps k) left ≡ total (maps k) es + one_if (same_port k (source_key n)) =
         total_append (maps k) n.source slot es in

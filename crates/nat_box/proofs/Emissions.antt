@@ -25,6 +25,8 @@ use Rattle.nat_tables.specs.Keys.{same_port}
 use Rattle.nat_tables.specs.declared.entries.Endpoint.{Endpoint}
 use Rattle.nat_tables.specs.declared.entries.PortKey.{PortKey}
 use Rattle.nat_tables.specs.declared.slot.Slot.{Slot}
+use Rattle.nat_tables.specs.declared.phase.Phase.TheVariants.{Plain}
+use Rattle.nat_tables.specs.declared.phase.Segment.{Segment}
 use Rattle.nat_box.specs.declared.place.Place.{Place}
 use Rattle.nat_box.specs.declared.place.Place.TheVariants.{HearsTime, FindsMapping, UnbindsFreed, GivesBackFreed}
 use Rattle.nat_box.specs.declared.place.Place.TheVariants.{DrawsWord, ReservesPort, BindsPort, FindsOrBinds}
@@ -41,7 +43,8 @@ use Rattle.nat_box.specs.declared.place.Goes.{Goes}
 use Rattle.flow_boxes.specs.Drops.{reason_of}
 use Rattle.nat_box.specs.Nat.{Settings, goes, next_move, class_of_flow, noted_flow, nothing_noted, begun_as}
 use Rattle.nat_box.specs.Nat.{begun, mapped, after_find, after_reserve, after_bind, touched, after_endpoint, looked_by}
-use Rattle.nat_box.specs.Nat.{looked, after_time, told, frame_out, local_at, nat_meaning, MayBind, Fits}
+use Rattle.nat_box.specs.Nat.{looked, after_time, told, frame_out, local_at, nat_meaning, MayBind, Fits, segment_told}
+use Rattle.nat_box.specs.Nat.{followed_by, followed}
 use Rattle.nat_box.specs.Noting.{place_again, IsNoted, is_noted, noted_again}
 use Rattle.nat_box.specs.Lawful.{AreSettings, var_of, touches_it, reads_it, below_all, nat_lawful}
 use Rattle.nat_box.specs.Emissions.{Trail, no_trail, left_forward, trail_by, trail_of, WasMapped, Lived}
@@ -50,6 +53,7 @@ use Rattle.nat_box.proofs.Noting.{touched_noted}
 use Rattle.flow_boxes.proofs.Fitting.{IsWhole, whole, slot_refreshed, slot_bound}
 use Rattle.flow_boxes.proofs.HeldInputs.{IsHeld, move_holds, run_holds}
 use Rattle.nat_box.proofs.Making.{goes_on, comes_to, Made, made}
+use Rattle.nat_box.proofs.Following.{was_followed}
 
 -- Tables after a refresh and after a bind
 
@@ -180,7 +184,7 @@ module _ (s : Settings) (p : Packet) where
           (left, refreshed n.time slot, refl, slot_refreshed n.source n.time slot es is, refl),
         )
     bound_known None is =
-        let slot : Slot = record { port = n.port; last = n.time } in
+        let slot : Slot = record { port = n.port; last = n.time; phase = Plain } in
         let left : Forwards = es ++ (n.source, slot) ∷ [] in
         mapped_known (after_touch (Mapped left) r) n n.class refl base clock out
         (left, slot, refl, slot_bound n.source slot es is, refl)
@@ -189,6 +193,52 @@ module _ (s : Settings) (p : Packet) where
       → KnownAt s r p (after_reserve n o).place (after_reserve n o).noted
   reserved_known r n (Some port) base clock out = (base_on n (record n { port = port }) refl refl refl base, clock, out)
   reserved_known r n None base clock out = tt
+
+  outward_by : (c : Class) (X Y : Type 0) → (X → Y) → IfOutward c X → IfOutward c Y
+  outward_by Outbound X Y f k = f k
+  outward_by Hairpin X Y f k = f k
+  outward_by Inbound X Y f k = tt
+
+  -- another table in which each endpoint has the port that it had
+  with_forward : (f g : Option Forwards) (read : Option NatValue) (clock : Option ℕ)
+      → ((key : Endpoint) (port : ℕ) → WasMapped f key port → WasMapped g key port) → (place : Place) (n : Noted)
+      → KnownAt s (record { forward = f; read = read; clock = clock }) p place n
+      → KnownAt s (record { forward = g; read = read; clock = clock }) p place n
+  with_forward f g read clock each HearsTime n k = k
+  with_forward f g read clock each FindsMapping n k = k
+  with_forward f g read clock each UnbindsFreed n k = k
+  with_forward f g read clock each GivesBackFreed n k = k
+  with_forward f g read clock each DrawsWord n k = k
+  with_forward f g read clock each ReservesPort n k = k
+  with_forward f g read clock each BindsPort n k = k
+  with_forward f g read clock each FindsOrBinds n k = k
+  with_forward f g read clock each UnbindsLost n k = (k.0, k.1, k.2, each n.source n.port k.3)
+  with_forward f g read clock each GivesBackLost n k = (k.0, k.1, k.2, each n.source n.port k.3)
+  with_forward f g read clock each FindsEndpoint n k = (
+    k.0,
+    k.1,
+    k.2,
+    outward_by n.class (WasMapped f n.source n.port) (WasMapped g n.source n.port) (each n.source n.port) k.3,
+  )
+  with_forward f g read clock each AsksIfLives n k = (
+    k.0,
+    k.1,
+    k.2,
+    outward_by n.class (WasMapped f n.source n.port) (WasMapped g n.source n.port) (each n.source n.port) k.3,
+  )
+  with_forward f g read clock each CountsDrop n k = k
+  with_forward f g read clock each SendsOut n k = (
+    k.0,
+    outward_by n.class (WasMapped f n.source n.port) (WasMapped g n.source n.port) (each n.source n.port) k.1,
+    k.2,
+  )
+  with_forward f g read clock each Ends n k = k
+
+  followed_known : (r : Trail) (n : Noted) (x : NatValue) (place : Place) (m : Noted)
+      → KnownAt s (after_touch x r) p place m → KnownAt s (after_touch (followed s n x) r) p place m
+  followed_known r n x place m k =
+      with_forward (left_forward (Some x) r.forward) (left_forward (Some (followed s n x)) r.forward) r.read r.clock
+      (was_followed s n x r.forward) place m k
 
   touch_known : (r : Trail) (place : Place) (x : NatValue) (n : Noted) (v : ℕ) → next_move s place n ≡ Access v
       → KnownAt s r p place n
@@ -468,8 +518,9 @@ looked_noted s Ends x n v is fits = is
 
 -- The beginning
 
-begun_noted : (flow : Flow) (class : Class) → IsWhole flow → IsNoted (noted_flow flow class)
-begun_noted flow class w = record {
+begun_noted : (segment : Segment) (flow : Flow) (class : Class) → IsWhole flow
+    → IsNoted (noted_flow segment flow class)
+begun_noted segment flow class w = record {
   protocol = w.protocol;
   address = w.source;
   source_port = w.source_port;
@@ -507,13 +558,16 @@ begun_known s p (Ok flow) bytes is =
     let w : IsWhole flow = subst IsWhole same (whole p.bytes bytes) in
     by (class_of_flow s flow.source flow.dest) refl w
   where
+    segment : Segment
+    segment = segment_told s.closing flow.flags
+
     by : (o : Option Class) → class_of_flow s flow.source flow.dest ≡ o → IsWhole flow
-        → Known s no_trail (Some (record { packet = p; place = local_at (begun_as flow o) }))
-    by None q w = known_on s no_trail (record { packet = p; place = local_at (begun_as flow None) })
-        (begun_as flow None) (nothing_is_noted 9) tt
+        → Known s no_trail (Some (record { packet = p; place = local_at (begun_as segment flow o) }))
+    by None q w = known_on s no_trail (record { packet = p; place = local_at (begun_as segment flow None) })
+        (begun_as segment flow None) (nothing_is_noted 9) tt
     by (Some class) q w =
-        known_on s no_trail (record { packet = p; place = local_at (begun_as flow (Some class)) })
-        (begun_as flow (Some class)) (begun_noted flow class w)
+        known_on s no_trail (record { packet = p; place = local_at (begun_as segment flow (Some class)) })
+        (begun_as segment flow (Some class)) (begun_noted segment flow class w)
         (record { flow = flow; seen = is; class = q; source = refl; dest_port = refl })
 
 -- Each move
@@ -534,12 +588,14 @@ made_known s is packets t earlier taken tn before after (Touches v left) bytes f
     let at : var_of s place n ≡ v = touches_it s place n v m.2 in
     let below : v < 2 + 2 * s.shards = subst (λ (u : ℕ). u < 2 + 2 * s.shards) at (below_all s place n is.some) in
     let known : KnownAt s r h.packet place n = subst (Known s r) m.1 k in
-    let next = touch_known s h.packet r place x n v m.2 known in
-    let on : Known s (after_touch (touched place x n).0 r) (goes_on h (touched place x n).1) =
-    known_on s (after_touch (touched place x n).0 r) h (touched place x n).1
+    let left : NatValue = followed s n (touched place x n).0 in
+    let next = followed_known s h.packet r n (touched place x n).0 (touched place x n).1.place
+    (touched place x n).1.noted (touch_known s h.packet r place x n v m.2 known) in
+    let on : Known s (after_touch left r) (goes_on h (touched place x n).1) =
+    known_on s (after_touch left r) h (touched place x n).1
     (touched_noted s place x n v (is_noted h.place) (fits v below)) next in
     subst (λ (y : NatValue). Known s (after_touch y r) after) (sym m.3)
-    (subst (Known s (after_touch (touched place x n).0 r)) (sym m.4) on)
+    (subst (Known s (after_touch left r)) (sym m.4) on)
 made_known s is packets t earlier taken tn before after (Looks v) bytes fits r k m =
     let h : Hand = m.0 in
     let place : Place = place_numbered h.place.at in

@@ -1,4 +1,5 @@
 pub mod Effects
+pub mod Following
 pub mod Noting
 pub mod Moving
 pub mod Standing

@@ -15,7 +15,7 @@ use Rattle.nat_tables.specs.Reverses.{endpoint_of}
 use Rattle.nat_box.specs.Places.{place_numbered, noted, dest_key}
 use Rattle.nat_box.specs.declared.place.Goes.{Goes}
 use Rattle.nat_box.specs.Nat.{Settings, goes, next_move, class_of_flow, begun_as, begun, touched, after_endpoint}
-use Rattle.nat_box.specs.Nat.{looked_by, looked, after_time, told, local_at, nat_meaning}
+use Rattle.nat_box.specs.Nat.{looked_by, looked, after_time, told, local_at, nat_meaning, followed, segment_told}
 use Rattle.nat_box.specs.Noting.{place_again}
 use Rattle.nat_box.proofs.Effects.{HoldsNone, Touches as IsTouching}
 use Rattle.nat_tables.specs.declared.entries.Endpoint.{Endpoint}
@@ -41,7 +41,7 @@ none_at p g h = subst HoldsNone (sym (place_again g.place)) h
 begun_none : (s : Settings) (seen : Result Flow NotFlow) → HoldsNone (begun s seen).place
 begun_none s (Ok flow) = by (class_of_flow s flow.source flow.dest)
   where
-    by : (o : Option Class) → HoldsNone (begun_as flow o).place
+    by : (o : Option Class) → HoldsNone (begun_as (segment_told s.closing flow.flags) flow o).place
     by (Some class) = tt
     by None = tt
 begun_none s (Err answer) = tt
@@ -174,7 +174,7 @@ look_none s Ends x n v e = absurd (cc)
 abbrev pub Outcome : Settings → (ℕ → NatValue) → Option Hand → Option Hand → Effect NatValue → Type 0
 Outcome s value before after (Touches v left) =
     (h : Hand) × (before ≡ Some h) × (next_move s (place_numbered h.place.at) (noted h.place) ≡ Access v)
-    × (left ≡ (touched (place_numbered h.place.at) (value v) (noted h.place)).0)
+    × (left ≡ followed s (noted h.place) (touched (place_numbered h.place.at) (value v) (noted h.place)).0)
     × (after
     ≡ Some
     (record { packet = h.packet; place = local_at (touched (place_numbered h.place.at) (value v) (noted h.place)).1 }))

@@ -118,7 +118,7 @@ missed (y ∷ es) key m f (inl p) k =
     let a : same_endpoint y.0 key ≡ true = rw (k, p) (same_self f.0) in absurd (cc)
 missed (y ∷ es) key m f (inr h) k = missed es key m.1 f h k
 
-one_of_key : (May : Endpoint → ℕ → Type 0) (es : Forwards) (e f : Endpoint × Slot) → AreMappings May es → Has es e
+one_of_key : (May : Endpoint → Slot → Type 0) (es : Forwards) (e f : Endpoint × Slot) → AreMappings May es → Has es e
     → Has es f → e.0 ≡ f.0 → e ≡ f
 one_of_key May [] e f all h g same = absurd h
 one_of_key May (x ∷ es) e f all (inl p) (inl q) same = sym p ∙ q
@@ -128,10 +128,10 @@ one_of_key May (x ∷ es) e f all (inr h) (inl q) same =
     absurd (missed es x.0 all.1 e h (ap (λ (y : Endpoint × Slot). y.0) q ∙ sym same))
 one_of_key May (x ∷ es) e f all (inr h) (inr g) same = one_of_key May es e f all.2 h g same
 
-may_has : (May : Endpoint → ℕ → Type 0) (es : Forwards) (e : Endpoint × Slot) → AreMappings May es → Has es e
-    → May e.0 e.1.port
+may_has : (May : Endpoint → Slot → Type 0) (es : Forwards) (e : Endpoint × Slot) → AreMappings May es → Has es e
+    → May e.0 e.1
 may_has May [] e all h = absurd h
-may_has May (x ∷ es) e all (inl p) = subst (λ (y : Endpoint × Slot). May y.0 y.1.port) p all.0
+may_has May (x ∷ es) e all (inl p) = subst (λ (y : Endpoint × Slot). May y.0 y.1) p all.0
 may_has May (x ∷ es) e all (inr h) = may_has May es e all.2 h
 
 bound_has : (May : PortKey → Endpoint → Type 0) (bs : Reverses) (b : PortKey × Endpoint) → AreBound May bs → Has bs b

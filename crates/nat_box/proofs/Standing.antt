@@ -26,7 +26,7 @@ use Rattle.nat_box.specs.declared.value.NatValue.{NatValue}
 use Rattle.nat_box.specs.declared.value.NatValue.TheVariants.{Dropped, Free, Mapped, Taken}
 use Rattle.nat_box.specs.Places.{place_numbered, noted, source_key}
 use Rattle.nat_box.specs.declared.place.Goes.{Goes}
-use Rattle.nat_box.specs.Nat.{Settings, touched, reverse_table, local_at, fresh_value, nat_meaning, Fits}
+use Rattle.nat_box.specs.Nat.{Settings, touched, followed, reverse_table, local_at, fresh_value, nat_meaning, Fits}
 use Rattle.nat_box.specs.Noting.{place_again, IsNoted, is_noted, noted_again}
 use Rattle.nat_box.specs.Lawful.{AreSettings, var_of, touches_it, below_all, nat_lawful}
 use Rattle.nat_box.specs.PortStanding.{free_at, maps, maps_for, mapped_at, binds, binds_for, taken_at, bare, queued}
@@ -34,6 +34,7 @@ use Rattle.nat_box.specs.PortStanding.{queued_for, loose, in_values, in_hand, in
 use Rattle.nat_box.specs.PortStanding.{PortsStand}
 use Rattle.flow_boxes.proofs.Summing.{one_changes, sum_of_none, term_of_sum, sums_below, one_term}
 use Rattle.nat_box.proofs.Effects.{holds_none, seen, Shifts, IsPart, IsUnder, Own, of_range_one, touch_sound}
+use Rattle.nat_box.proofs.Following.{seen_followed}
 use Rattle.nat_box.proofs.Noting.{touched_noted}
 use Rattle.nat_box.proofs.Moving.{HandNone, touching, Outcome, outcome}
 
@@ -220,11 +221,16 @@ module _ (s : Settings) (is : AreSettings s) (threads : ℕ) (k : PortKey) (e : 
         λ number. ap (in_hand number) o.4 ∙ hand_number number h.packet r.1 fit in
         let own_is : Bool = w == reverse_table s k in
         let y : Tally = tally_of s threads k e value thread in
-        let z : Tally = tally_of s threads k e (λ v. cond (nat_eq w v) r.0 (value v)) next_thread in
+        let left : NatValue = followed s n r.0 in
+        let z : Tally = tally_of s threads k e (λ v. cond (nat_eq w v) left (value v)) next_thread in
+        let same : seen k e left r.1.place r.1.noted ≡ seen k e r.0 r.1.place r.1.noted =
+        seen_followed k e s n r.0 r.1.place r.1.noted in
         let done : IsSound (of_range s.low s.high k) z =
         touch_sound s is.some k e (of_range s.low s.high k) (of_range_one s.low s.high k) own_is y z sound under p
-        (value w) n w at refl (fits w below) refl (part w r.0 below p n r.1 was goes_on)
-        (shifts w r.0 below p n r.1 was goes_on) (own w r.0 below p n r.1 was goes_on own_is refl)
+        (value w) n w at refl (fits w below) refl (part w left below p n r.1 was goes_on)
+        (subst (λ (a : Tally). Shifts y z (seen k e (value w) p n) a) same (shifts w left below p n r.1 was goes_on))
+        (subst (λ (a : Tally). Own own_is y z (seen k e (value w) p n) a) same
+        (own w left below p n r.1 was goes_on own_is refl))
         (touching s p n w o.2) in
         subst (λ (x : NatValue).
         IsSound (of_range s.low s.high k) (tally_of s threads k e (λ v. cond (nat_eq w v) x (value v)) next_thread))

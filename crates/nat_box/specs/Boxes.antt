@@ -1,5 +1,5 @@
 -- The box as a value: its settings are in range.
-use Rattle.std.specs.Prelude.{ℕ, ◌≤◌, ◌<◌, ◌^◌, min, max}
+use Rattle.std.specs.Prelude.{ℕ, ◌≤◌, ◌<◌, ◌^◌, min, max, Option, None}
 use Rattle.std.proofs.Common.{arith}
 use Rattle.plain_machine.specs.Program.{Meaning, IsLawful}
 use Rattle.flow_boxes.specs.Ranges.{at_least, at_most, one_of_64}
@@ -9,8 +9,15 @@ use Rattle.nat_box.specs.Nat.{Settings, nat_meaning, Fits}
 use Rattle.nat_box.specs.Lawful.{AreSettings, nat_lawful}
 
 abbrev pub settings_of : NatBox → Settings
-settings_of b =
-    record { shards = b.shards; inside = b.inside; length = b.length; outside = b.outside; low = b.low; high = b.high }
+settings_of b = record {
+  shards = b.shards;
+  inside = b.inside;
+  length = b.length;
+  outside = b.outside;
+  low = b.low;
+  high = b.high;
+  closing = b.closing;
+}
 
 pub one_of_32 : 1 ≤ 32
 one_of_32 = omega arith
@@ -27,6 +34,7 @@ box_with shards inside length outside low high = record {
   outside = outside;
   low = max 1 (min low 65535);
   high = max (max 1 (min low 65535)) (min high 65535);
+  closing = None;
   some = at_least 1 shards 64;
   few = at_most 1 shards 64 one_of_64;
   long = at_least 1 length 32;
@@ -35,6 +43,10 @@ box_with shards inside length outside low high = record {
   order = at_least (max 1 (min low 65535)) high 65535;
   below = in_16_bits low high;
 }
+
+-- the same box, with this number of seconds
+abbrev pub with_closing : Option ℕ → NatBox → NatBox
+with_closing closing b = record b { closing = closing }
 
 abbrev pub box_meaning : NatBox → Meaning NatValue
 box_meaning b = nat_meaning (settings_of b)

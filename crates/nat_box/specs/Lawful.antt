@@ -1,7 +1,7 @@
 -- The laws of programs, of the box with 1 to 64 tables of each kind.
 use Rattle.std.specs.Prelude.{◌≡◌, ℕ, zero, suc, ◌+◌, ◌-◌, ◌*◌, ◌%◌, ◌^◌, ◌<◌, ◌≤◌, Bool, true, false, List, [], ◌∷◌}
 use Rattle.std.specs.Prelude.{◌++◌, length, take, drop, slice_index, Option, Some, None, Result, Ok, Err, ◌==◌, nat_lt}
-use Rattle.std.specs.Prelude.{refl}
+use Rattle.std.specs.Prelude.{refl, if◌then◌else◌}
 use Rattle.std.specs.List.{remove}
 use Rattle.std.proofs.Common.{arith, ap, sym, subst, ◌∙◌}
 use Rattle.std.proofs.lemmas.Grind.{common_steps}
@@ -23,10 +23,15 @@ use Rattle.nat_tables.specs.Ports.{Ports, PoolPorts, chosen, of_even, of_odd, is
 use Rattle.nat_tables.specs.Ports.{given_back_to, reserve, is_in_range, give_back, ports_from, IsBelow, AreOfParity}
 use Rattle.nat_tables.specs.Ports.{ArePorts, no_ports}
 use Rattle.nat_tables.specs.Forwards.{Forwards, is_idle, slot_of, first_idle, found, find, bound, find_or_bind, lives}
-use Rattle.nat_tables.specs.Forwards.{AreMappings}
+use Rattle.nat_tables.specs.declared.phase.Phase.{Phase}
+use Rattle.nat_tables.specs.declared.phase.Phase.TheVariants.{Plain, Opening, Established, Closing}
+use Rattle.nat_tables.specs.declared.phase.Segment.{Segment}
+use Rattle.nat_tables.specs.declared.phase.Segment.TheVariants.{Silent, Opens, Carries, Closes}
+use Rattle.nat_tables.specs.Phases.{phase_after}
+use Rattle.nat_tables.specs.Forwards.{refreshed, mark, AreMappings}
 use Rattle.nat_tables.specs.Reverses.{endpoint_of}
 use Rattle.nat_tables.proofs.Keeping.{keeps_refreshed, keeps_without, keeps_without_idle, keeps_bound, keeps_bind}
-use Rattle.nat_tables.proofs.Keeping.{keeps_unbind}
+use Rattle.nat_tables.proofs.Keeping.{keeps_unbind, keeps_marked}
 use Rattle.nat_box.specs.declared.place.Place.{Place}
 use Rattle.nat_box.specs.declared.place.Place.TheVariants.{HearsTime, FindsMapping, UnbindsFreed, GivesBackFreed}
 use Rattle.nat_box.specs.declared.place.Place.TheVariants.{DrawsWord, ReservesPort, BindsPort, FindsOrBinds}
@@ -42,7 +47,7 @@ use Rattle.nat_box.specs.declared.place.Goes.{Goes}
 use Rattle.nat_box.specs.Nat.{Settings, forward_table, reverse_table, next_move, moves_left, class_of_flow, begun_as}
 use Rattle.nat_box.specs.Nat.{begun, mapped, after_find, after_reserve, after_bind, touched, after_endpoint, looked_by}
 use Rattle.nat_box.specs.Nat.{looked, after_time, told, frame_out, bytes_out, local_at, fresh_value, nat_meaning}
-use Rattle.nat_box.specs.Nat.{MayMap, MayBind, Fits}
+use Rattle.nat_box.specs.Nat.{MayMap, MayBind, Fits, HasPhase, followed_by, followed, segment_told}
 use Rattle.nat_box.specs.Noting.{place_again, IsNoted, is_noted}
 
 -- what may be configured
@@ -304,7 +309,7 @@ ends_at s Ends n e = refl
 few_to_make : (s : Settings) (seen : Result Flow NotFlow) → moves_left (begun s seen).place ≤ 62
 few_to_make s (Ok flow) = by (class_of_flow s flow.source flow.dest)
   where
-    by : (o : Option Class) → moves_left (begun_as flow o).place ≤ 62
+    by : (o : Option Class) → moves_left (begun_as (segment_told s.closing flow.flags) flow o).place ≤ 62
     by (Some class) = omega arith
     by None = omega arith
 few_to_make s (Err answer) = omega arith
@@ -425,29 +430,37 @@ fits_given s protocol p pool low fits = by (is_in_range p pool) (protocol == 6) 
         rw (d, e, f) (fits.0, fits.1, (fits.2.0, fits.2.1, a.0, a.1))
     by true false false d e f = rw (d, e, f) fits
 
-module _ (May : Endpoint → ℕ → Type 0) where
+module _ (May : Endpoint → Slot → Type 0) where
   fits_found : (key : Endpoint) (now : ℕ) (es : Forwards) (a : Option Slot) (b : Option (Endpoint × Slot))
-      → AreMappings May es → AreMappings May (found key now es a b).1
-  fits_found key now es (Some slot) b all = by (is_idle now (key, slot)) refl
+      → ((slot : Slot) → May key slot → May key (refreshed now slot)) → AreMappings May es
+      → AreMappings May (found key now es a b).1
+  fits_found key now es (Some slot) b may all = by (is_idle now (key, slot)) refl
     where
       by : (t : Bool) → is_idle now (key, slot) ≡ t → AreMappings May (found key now es (Some slot) b).1
       by true q = rw q (keeps_without May key es all)
-      by false q = rw q (keeps_refreshed May key now es all)
-  fits_found key now es None (Some e) all = keeps_without_idle May now es all
-  fits_found key now es None None all = all
+      by false q = rw q (keeps_refreshed May key now es may all)
+  fits_found key now es None (Some e) may all = keeps_without_idle May now es all
+  fits_found key now es None None may all = all
 
-  fits_bound : (key : Endpoint) (port now : ℕ) (es : Forwards) (a : Option Slot) → slot_of key es ≡ a → May key port
-      → AreMappings May es → AreMappings May (bound key port now es a).1
-  fits_bound key port now es (Some slot) is may all = keeps_refreshed May key now es all
-  fits_bound key port now es None is may all = keeps_bound May key (record { port = port; last = now }) es is may all
+  fits_bound : (key : Endpoint) (port now : ℕ) (es : Forwards) (a : Option Slot) → slot_of key es ≡ a
+      → ((slot : Slot) → May key slot → May key (refreshed now slot))
+      → May key (record { port = port; last = now; phase = Plain }) → AreMappings May es
+      → AreMappings May (bound key port now es a).1
+  fits_bound key port now es (Some slot) is again may all = keeps_refreshed May key now es again all
+  fits_bound key port now es None is again may all =
+      keeps_bound May key (record { port = port; last = now; phase = Plain }) es is may all
 
 touched_fits : (s : Settings) (p : Place) (x : NatValue) (n : Noted) (v : ℕ) → IsNoted n → var_of s p n ≡ v → Fits s v x
     → Fits s v (touched p x n).0
 touched_fits s HearsTime x n v is e fits = fits
 touched_fits s FindsMapping (Dropped d) n v is e fits = fits
 touched_fits s FindsMapping (Free pool) n v is e fits = fits
-touched_fits s FindsMapping (Mapped es) n v is e fits =
-    (fits.0, fits.1, fits_found (MayMap s v) n.source n.time es (slot_of n.source es) (first_idle n.time es) fits.2)
+touched_fits s FindsMapping (Mapped es) n v is e fits = (
+  fits.0,
+  fits.1,
+  fits_found (MayMap s v) n.source n.time es (slot_of n.source es) (first_idle n.time es)
+      (λ slot may. may) fits.2,
+)
 touched_fits s FindsMapping (Taken bs) n v is e fits = fits
 touched_fits s UnbindsFreed (Dropped d) n v is e fits = fits
 touched_fits s UnbindsFreed (Free pool) n v is e fits = fits
@@ -476,7 +489,8 @@ touched_fits s FindsOrBinds (Free pool) n v is e fits = fits
 touched_fits s FindsOrBinds (Mapped es) n v is e fits = (
   fits.0,
   fits.1,
-  fits_bound (MayMap s v) n.source n.port n.time es (slot_of n.source es) refl (sym e, is.protocol, is.port) fits.2,
+  fits_bound (MayMap s v) n.source n.port n.time es (slot_of n.source es) refl (λ slot may. may)
+      (sym e, is.protocol, is.port, tt) fits.2,
 )
 touched_fits s FindsOrBinds (Taken bs) n v is e fits = fits
 touched_fits s UnbindsLost (Dropped d) n v is e fits = fits
@@ -497,6 +511,41 @@ touched_fits s CountsDrop (Mapped es) n v is e fits = fits
 touched_fits s CountsDrop (Taken bs) n v is e fits = fits
 touched_fits s SendsOut x n v is e fits = fits
 touched_fits s Ends x n v is e fits = fits
+
+-- the segment that is noted in a mapping
+
+phase_fits : (closing : Option ℕ) (protocol seconds : ℕ) (segment : Segment) (phase : Phase) → closing ≡ Some seconds
+    → protocol ≡ 6 → HasPhase closing protocol (phase_after seconds segment phase)
+phase_fits closing protocol seconds Silent Plain is tcp = (is, tcp)
+phase_fits closing protocol seconds Silent (Opening old) is tcp = (is, tcp)
+phase_fits closing protocol seconds Silent Established is tcp = (seconds, is, tcp)
+phase_fits closing protocol seconds Silent (Closing old) is tcp = (is, tcp)
+phase_fits closing protocol seconds Opens phase is tcp = (is, tcp)
+phase_fits closing protocol seconds Carries Plain is tcp = (seconds, is, tcp)
+phase_fits closing protocol seconds Carries (Opening old) is tcp = (seconds, is, tcp)
+phase_fits closing protocol seconds Carries Established is tcp = (seconds, is, tcp)
+phase_fits closing protocol seconds Carries (Closing old) is tcp = (is, tcp)
+phase_fits closing protocol seconds Closes phase is tcp = (is, tcp)
+
+followed_fit : (s : Settings) (v : ℕ) (n : Noted) (es : Forwards) (c : Option ℕ) → s.closing ≡ c
+    → AreMappings (MayMap s v) es → AreMappings (MayMap s v) (followed_by c n es)
+followed_fit s v n es None is all = all
+followed_fit s v n es (Some seconds) is all = by (n.source.protocol == 6) refl
+  where
+    by : (b : Bool) → (n.source.protocol == 6) ≡ b
+        → AreMappings (MayMap s v) (if b then mark n.source seconds n.segment es else es)
+    by true q =
+        let tcp : n.source.protocol ≡ 6 = grind (arith, nat_tests) in
+        keeps_marked (MayMap s v) n.source seconds n.segment es
+        (λ slot may. (may.0, may.1, may.2, phase_fits s.closing n.source.protocol seconds n.segment slot.phase is tcp))
+        all
+    by false q = all
+
+value_fits : (s : Settings) (v : ℕ) (n : Noted) (x : NatValue) → Fits s v x → Fits s v (followed s n x)
+value_fits s v n (Dropped d) fits = fits
+value_fits s v n (Free pool) fits = fits
+value_fits s v n (Mapped es) fits = (fits.0, fits.1, followed_fit s v n es s.closing refl fits.2)
+value_fits s v n (Taken bs) fits = fits
 
 fresh_fits_at : (s : Settings) → AreSettings s → (v : ℕ) → Fits s v (fresh_value s v)
 fresh_fits_at s is v = by (v == 0) (v == 1) (nat_lt v (2 + s.shards)) refl refl refl
@@ -558,7 +607,8 @@ nat_lawful s is = record {
   emit_falls = λ l e. emit_falls_at s (place_numbered l.at) (noted l) e;
   ends = λ l e. ends_at s (place_numbered l.at) (noted l) e;
   fresh_fits = λ v _. fresh_fits_at s is v;
-  touch_fits = λ v x l e f. touched_fits s (place_numbered l.at) x (noted l) v (is_noted l)
-      (touches_it s (place_numbered l.at) (noted l) v e) f;
+  touch_fits = λ v x l e f. value_fits s v (noted l) (touched (place_numbered l.at) x (noted l)).0
+      (touched_fits s (place_numbered l.at) x (noted l) v (is_noted l)
+      (touches_it s (place_numbered l.at) (noted l) v e) f);
   as_long = λ p l e. long_out s p.bytes (noted l) (viewed p.bytes p.original);
 }

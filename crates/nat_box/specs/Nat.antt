@@ -1,7 +1,7 @@
 -- The box that gives inside endpoints ports of one outside address (RFC 3022). Variable 0 counts drops by reason,
 -- variable 1 is the pool of free ports, the next S variables are the forward tables, and the next S the reverse tables.
-use Rattle.std.specs.Prelude.{◌≡◌, ℕ, ◌+◌, ◌-◌, ◌*◌, ◌/◌, ◌%◌, ◌^◌, ◌<◌, ◌≤◌, Bool, true, false, ◌==◌, nat_lt}
-use Rattle.std.specs.Prelude.{if◌then◌else◌, List, [], Option, Some, None, Result}
+use Rattle.std.specs.Prelude.{◌≡◌, ℕ, ◌+◌, ◌-◌, ◌*◌, ◌/◌, ◌%◌, ◌^◌, ◌<◌, ◌≤◌, Bool, true, false, ◌==◌, nat_lt, not}
+use Rattle.std.specs.Prelude.{if◌then◌else◌, bit_and, List, [], Option, Some, None, Result}
 use Rattle.std.specs.Prelude.{Ok, Err}
 use Rattle.packet_headers.specs.declared.flow.Flow.{Flow}
 use Rattle.packet_headers.specs.declared.flow.NotFlow.{NotFlow}
@@ -20,7 +20,12 @@ use Rattle.nat_tables.specs.declared.entries.Bind.{Bind}
 use Rattle.nat_tables.specs.declared.entries.Bind.TheVariants.{Bound, Other}
 use Rattle.nat_tables.specs.Ports.{reserve, give_back, full_pool, ArePorts}
 use Rattle.nat_tables.specs.Keys.{port_key}
-use Rattle.nat_tables.specs.Forwards.{find, find_or_bind, lives, AreMappings}
+use Rattle.nat_tables.specs.declared.slot.Slot.{Slot}
+use Rattle.nat_tables.specs.declared.phase.Phase.{Phase}
+use Rattle.nat_tables.specs.declared.phase.Phase.TheVariants.{Plain, Opening, Established, Closing}
+use Rattle.nat_tables.specs.declared.phase.Segment.{Segment}
+use Rattle.nat_tables.specs.declared.phase.Segment.TheVariants.{Silent, Opens, Carries, Closes}
+use Rattle.nat_tables.specs.Forwards.{Forwards, find, find_or_bind, lives, mark, AreMappings}
 use Rattle.nat_tables.specs.Reverses.{endpoint_of, bind, unbind, AreBound}
 use Rattle.nat_box.specs.declared.place.Place.{Place}
 use Rattle.nat_box.specs.declared.place.Place.TheVariants.{HearsTime, FindsMapping, UnbindsFreed, GivesBackFreed}
@@ -47,6 +52,9 @@ pub record Settings : Type 0 where
   -- the range of outside ports, both ends included
   pub low : ℕ
   pub high : ℕ
+  -- for how many seconds the mapping of a connection that is not established is kept without use; where there is none,
+  -- connections are not followed
+  pub closing : Option ℕ
 
 abbrev pub goes : Place → Noted → Goes
 goes place n = record { place = place; noted = n }
@@ -111,11 +119,25 @@ class_of_flow s source dest =
     if dest == s.outside then Some Hairpin else if is_inside s dest then None else Some Outbound
     else if dest == s.outside then Some Inbound else None
 
+-- What a segment with these control bits tells of its connection: FIN is 1, SYN 2, RST 4, and ACK 16 (RFC 9293, section
+-- 3.1).
+abbrev pub segment_of : ℕ → Segment
+segment_of flags =
+    if not (bit_and flags 5 == 0) then Closes else if bit_and flags 2 == 0
+    then if bit_and flags 16 == 0 then Silent else Carries
+    else if bit_and flags 16 == 0 then Opens else Silent
+
+-- nothing where connections are not followed
+abbrev pub segment_told : Option ℕ → ℕ → Segment
+segment_told None flags = Silent
+segment_told (Some seconds) flags = segment_of flags
+
 abbrev pub nothing_noted : ℕ → Noted
 nothing_noted reason = record {
   class = Outbound;
   source = endpoint 0 0 0;
   dest_port = 0;
+  segment = Silent;
   time = 0;
   word = reason;
   port = 0;
@@ -123,11 +145,12 @@ nothing_noted reason = record {
   target = endpoint 0 0 0;
 }
 
-abbrev pub noted_flow : Flow → Class → Noted
-noted_flow flow class = record {
+abbrev pub noted_flow : Segment → Flow → Class → Noted
+noted_flow segment flow class = record {
   class = class;
   source = endpoint flow.protocol flow.source flow.source_port;
   dest_port = flow.dest_port;
+  segment = segment;
   time = 0;
   word = 0;
   port = 0;
@@ -135,12 +158,12 @@ noted_flow flow class = record {
   target = endpoint flow.protocol 0 0;
 }
 
-abbrev pub begun_as : Flow → Option Class → Goes
-begun_as flow (Some class) = goes HearsTime (noted_flow flow class)
-begun_as flow None = goes CountsDrop (nothing_noted stray)
+abbrev pub begun_as : Segment → Flow → Option Class → Goes
+begun_as segment flow (Some class) = goes HearsTime (noted_flow segment flow class)
+begun_as segment flow None = goes CountsDrop (nothing_noted stray)
 
 abbrev pub begun : Settings → Result Flow NotFlow → Goes
-begun s (Ok flow) = begun_as flow (class_of_flow s flow.source flow.dest)
+begun s (Ok flow) = begun_as (segment_told s.closing flow.flags) flow (class_of_flow s flow.source flow.dest)
 begun s (Err answer) = goes CountsDrop (nothing_noted (reason_of answer))
 
 -- Touches
@@ -183,6 +206,18 @@ touched UnbindsLost (Taken bs) n = (Taken (unbind n.freed bs), goes GivesBackLos
 touched GivesBackLost (Free pool) n = (Free (give_back n.freed.protocol n.freed.port pool), mapped n n.class)
 touched CountsDrop (Dropped d) n = (Dropped (with_drop n.word d), goes Ends n)
 touched _ x n = (x, goes Ends n)
+
+-- The mapping of a packet's source in a forward table that it touched. It notes the packet's segment where connections
+-- are followed and it is of TCP, which is protocol 6 (RFC 5382, REQ-5).
+abbrev pub followed_by : Option ℕ → Noted → Forwards → Forwards
+followed_by None n es = es
+followed_by (Some seconds) n es = if n.source.protocol == 6 then mark n.source seconds n.segment es else es
+
+abbrev pub followed : Settings → Noted → NatValue → NatValue
+followed s n (Dropped d) = Dropped d
+followed s n (Free pool) = Free pool
+followed s n (Mapped es) = Mapped (followed_by s.closing n es)
+followed s n (Taken bs) = Taken bs
 
 -- Reads
 
@@ -239,7 +274,7 @@ nat_meaning s = record {
   fresh = fresh_value s;
   begin = λ p. local_at (begun s (viewed p.bytes p.original));
   next = λ l. next_move s (place_numbered l.at) (noted l);
-  touch = λ _ x l. let r = touched (place_numbered l.at) x (noted l) in (r.0, local_at r.1);
+  touch = λ _ x l. let r = touched (place_numbered l.at) x (noted l) in (followed s (noted l) r.0, local_at r.1);
   look = λ _ x l. local_at (looked (place_numbered l.at) x (noted l));
   told = λ a l. local_at (told (place_numbered l.at) a (noted l));
   emitted = λ l. local_at (goes Ends (noted l));
@@ -251,8 +286,17 @@ nat_meaning s = record {
 -- Each variable has a value of its kind. In a forward table, mappings stand by their endpoints, and no endpoint has
 -- two; in a reverse table, bound ports stand by their numbers, and none twice.
 
-abbrev pub MayMap : Settings → ℕ → Endpoint → ℕ → Type 0
-MayMap s v key port = (v ≡ forward_table s key) × (key.protocol < 2 ^ 8) × (port < 2 ^ 16)
+-- The connection of a mapping is followed where the settings have a number of seconds, and then it has this number.
+abbrev pub HasPhase : Option ℕ → ℕ → Phase → Type 0
+HasPhase closing protocol Plain = Unit {0}
+HasPhase closing protocol (Opening seconds) = (closing ≡ Some seconds) × (protocol ≡ 6)
+HasPhase closing protocol Established = (seconds : ℕ) × (closing ≡ Some seconds) × (protocol ≡ 6)
+HasPhase closing protocol (Closing seconds) = (closing ≡ Some seconds) × (protocol ≡ 6)
+
+abbrev pub MayMap : Settings → ℕ → Endpoint → Slot → Type 0
+MayMap s v key slot =
+    (v ≡ forward_table s key) × (key.protocol < 2 ^ 8) × (slot.port < 2 ^ 16)
+    × HasPhase s.closing key.protocol slot.phase
 
 abbrev pub MayBind : Settings → ℕ → PortKey → Endpoint → Type 0
 MayBind s v port key = (v ≡ reverse_table s port) × (key.address < 2 ^ 32) × (key.port < 2 ^ 16)

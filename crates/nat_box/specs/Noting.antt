@@ -1,6 +1,6 @@
 -- What is noted in a Local is read from it again.
-use Rattle.std.specs.Prelude.{◌≡◌, ◌%◌, ◌^◌, ◌<◌, refl}
-use Rattle.std.proofs.Common.{arith}
+use Rattle.std.specs.Prelude.{◌≡◌, ◌+◌, ◌*◌, ◌/◌, ◌%◌, ◌^◌, ◌<◌, refl}
+use Rattle.std.proofs.Common.{arith, ap, ◌∙◌}
 use Rattle.plain_machine.specs.declared.local.Local.{Local}
 use Rattle.nat_box.specs.declared.place.Place.{Place}
 use Rattle.nat_box.specs.declared.place.Place.TheVariants.{HearsTime, FindsMapping, UnbindsFreed, GivesBackFreed}
@@ -10,7 +10,10 @@ use Rattle.nat_box.specs.declared.place.Place.TheVariants.{CountsDrop, SendsOut,
 use Rattle.nat_box.specs.declared.place.Class.{Class}
 use Rattle.nat_box.specs.declared.place.Class.TheVariants.{Outbound, Hairpin, Inbound}
 use Rattle.nat_box.specs.declared.place.Noted.{Noted}
+use Rattle.nat_tables.specs.declared.phase.Segment.{Segment}
+use Rattle.nat_tables.specs.declared.phase.Segment.TheVariants.{Silent, Opens, Carries, Closes}
 use Rattle.nat_box.specs.Places.{number_of, place_numbered, number_of_class, class_of, noted, local_of}
+use Rattle.nat_box.specs.Places.{number_of_segment, segment_numbered}
 
 pub place_again : (p : Place) → place_numbered (number_of p) ≡ p
 place_again HearsTime = refl
@@ -33,6 +36,12 @@ pub class_again : (c : Class) → class_of (number_of_class c) ≡ c
 class_again Outbound = refl
 class_again Hairpin = refl
 class_again Inbound = refl
+
+pub segment_again : (g : Segment) → segment_numbered (number_of_segment g) ≡ g
+segment_again Silent = refl
+segment_again Opens = refl
+segment_again Carries = refl
+segment_again Closes = refl
 
 -- each number fits its field
 pub record IsNoted (n : Noted) : Type 0 where
@@ -67,7 +76,12 @@ noted_again p n is =
     let a1 : n.source.protocol % 2 ^ 8 ≡ n.source.protocol = omega (arith, is.protocol) in
     let a2 : n.source.address % 2 ^ 32 ≡ n.source.address = omega (arith, is.address) in
     let a3 : n.source.port % 2 ^ 16 ≡ n.source.port = omega (arith, is.source_port) in
-    let a4 : n.dest_port % 2 ^ 16 ≡ n.dest_port = omega (arith, is.dest_port) in
+    let a4 : (n.dest_port + 2 ^ 16 * number_of_segment n.segment) % 2 ^ 16 ≡ n.dest_port =
+    omega (arith, is.dest_port) in
+    let above : (n.dest_port + 2 ^ 16 * number_of_segment n.segment) / 2 ^ 16 ≡ number_of_segment n.segment =
+    omega (arith, is.dest_port) in
+    let g : segment_numbered ((n.dest_port + 2 ^ 16 * number_of_segment n.segment) / 2 ^ 16) ≡ n.segment =
+    ap segment_numbered above ∙ segment_again n.segment in
     let a5 : n.port % 2 ^ 16 ≡ n.port = omega (arith, is.port) in
     let a6 : n.freed.protocol % 2 ^ 8 ≡ n.freed.protocol = omega (arith, is.freed_protocol) in
     let a7 : n.freed.port % 2 ^ 16 ≡ n.freed.port = omega (arith, is.freed_port) in
@@ -78,6 +92,7 @@ noted_again p n is =
       class = c i;
       source = record { protocol = a1 i; address = a2 i; port = a3 i };
       dest_port = a4 i;
+      segment = g i;
       time = n.time;
       word = n.word;
       port = a5 i;

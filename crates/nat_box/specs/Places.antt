@@ -1,7 +1,9 @@
 -- What the Local of a packet in hand says: the place of its next move, and what was noted.
-use Rattle.std.specs.Prelude.{ℕ, ◌%◌, ◌^◌, [], ◌∷◌, slice_index, ◌==◌, if◌then◌else◌}
+use Rattle.std.specs.Prelude.{ℕ, ◌+◌, ◌*◌, ◌/◌, ◌%◌, ◌^◌, [], ◌∷◌, slice_index, ◌==◌, if◌then◌else◌}
 use Rattle.plain_machine.specs.declared.local.Local.{Local}
 use Rattle.nat_tables.specs.declared.entries.PortKey.{PortKey}
+use Rattle.nat_tables.specs.declared.phase.Segment.{Segment}
+use Rattle.nat_tables.specs.declared.phase.Segment.TheVariants.{Silent, Opens, Carries, Closes}
 use Rattle.nat_tables.specs.Keys.{port_key}
 use Rattle.flow_boxes.specs.Flows.{endpoint}
 use Rattle.nat_box.specs.declared.place.Place.{Place}
@@ -47,12 +49,23 @@ number_of_class Inbound = 2
 abbrev pub class_of : ℕ → Class
 class_of number = if number == 0 then Outbound else if number == 1 then Hairpin else Inbound
 
--- what the Local has noted
+abbrev pub number_of_segment : Segment → ℕ
+number_of_segment Silent = 0
+number_of_segment Opens = 1
+number_of_segment Carries = 2
+number_of_segment Closes = 3
+
+abbrev pub segment_numbered : ℕ → Segment
+segment_numbered number =
+    if number == 0 then Silent else if number == 1 then Opens else if number == 2 then Carries else Closes
+
+-- what the Local has noted; the kind of a segment stands above the 16 bits of the port that it goes to
 abbrev pub noted : Local → Noted
 noted l = record {
   class = class_of (slice_index l.regs 0);
   source = endpoint (slice_index l.regs 1 % 2 ^ 8) (slice_index l.regs 2 % 2 ^ 32) (slice_index l.regs 3 % 2 ^ 16);
   dest_port = slice_index l.regs 4 % 2 ^ 16;
+  segment = segment_numbered (slice_index l.regs 4 / 2 ^ 16);
   time = slice_index l.regs 5;
   word = slice_index l.regs 6;
   port = slice_index l.regs 7 % 2 ^ 16;
@@ -65,8 +78,9 @@ abbrev pub local_of : Place → Noted → Local
 local_of place n = record {
   at = number_of place;
   regs =
-      number_of_class n.class ∷ n.source.protocol ∷ n.source.address ∷ n.source.port ∷ n.dest_port ∷ n.time ∷ n.word
-      ∷ n.port ∷ n.freed.protocol ∷ n.freed.port ∷ n.target.address ∷ n.target.port ∷ [];
+      number_of_class n.class ∷ n.source.protocol ∷ n.source.address ∷ n.source.port
+      ∷ (n.dest_port + 2 ^ 16 * number_of_segment n.segment) ∷ n.time ∷ n.word ∷ n.port ∷ n.freed.protocol
+      ∷ n.freed.port ∷ n.target.address ∷ n.target.port ∷ [];
 }
 
 -- the outside port of its source, and the one that it goes to

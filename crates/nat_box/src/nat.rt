@@ -27,6 +27,10 @@ pub struct NatBox {
     pub low: u16,
     /// The last outside port.
     pub high: u16,
+    /// For how many seconds a mapping of a TCP connection that is not established is kept without use (RFC 5382,
+    /// REQ-5). Where there is no such number, connections are not followed, and each mapping is kept as its protocol
+    /// says.
+    pub closing: Option<u32>,
     pub ghost some: { 1 ≤ shards },
     pub ghost few: { shards ≤ 64 },
     pub ghost long: { 1 ≤ length },
@@ -39,10 +43,10 @@ pub struct NatBox {
 impl NatBox {
     ghost use Rattle.std.specs.Prelude.{◌≡◌, ◌≤◌};
     ghost use Rattle.nat_box.specs.Nat.{is_inside, class_of_flow, forward_table, reverse_table};
-    ghost use Rattle.nat_box.specs.Boxes.{settings_of, box_with};
+    ghost use Rattle.nat_box.specs.Boxes.{settings_of, box_with, with_closing};
 
     /// The box with this number of tables of each kind, this inside network, outside address and range of outside
-    /// ports.
+    /// ports. It does not follow connections.
     pub fn new(shards: u32, inside: u32, length: u32, outside: u32, low: u16, high: u16) -> Self
         requires some { 1 ≤ shards }
         requires few { shards ≤ 64 }
@@ -59,6 +63,22 @@ impl NatBox {
             outside,
             low,
             high,
+            closing: None,
+        }
+    }
+
+    /// The same box, which follows TCP connections by what comes from inside, where there is a number of seconds.
+    pub fn with_closing(self, closing: Option<u32>) -> Self
+        ensures { result ≡ with_closing closing self }
+    {
+        NatBox {
+            shards: self.shards,
+            inside: self.inside,
+            length: self.length,
+            outside: self.outside,
+            low: self.low,
+            high: self.high,
+            closing,
         }
     }
 

@@ -1,9 +1,10 @@
-ghost use Rattle.std.specs.Prelude.{◌≡◌};
+ghost use Rattle.std.specs.Prelude.{◌≡◌, ◌≤◌};
 ghost use Rattle.nat_box.specs.Places.{number_of, place_numbered, number_of_class, class_of, noted};
-ghost use Rattle.nat_box.specs.Places.{local_of, source_key, dest_key};
+ghost use Rattle.nat_box.specs.Places.{local_of, source_key, dest_key, number_of_segment};
+ghost use Rattle.nat_box.specs.Places.{segment_numbered};
 
 use box_program::Local;
-use nat_tables::{Endpoint, PortKey};
+use nat_tables::{Endpoint, PortKey, Segment};
 
 /// What is done next with a packet.
 #[derive(Clone, Copy, Debug, PartialEq, Eq)]
@@ -121,6 +122,31 @@ impl Class {
     }
 }
 
+/// The number of a kind of segments in a Local.
+fn number_of_segment(segment: Segment) -> u64
+    ensures number { result ≡ number_of_segment segment }
+    ensures few { result ≤ 3 }
+{
+    match segment {
+        Segment::Silent => 0,
+        Segment::Opens => 1,
+        Segment::Carries => 2,
+        Segment::Closes => 3,
+    }
+}
+
+/// The kind of segments of a number.
+fn segment_numbered(number: u64) -> Segment
+    ensures { result ≡ segment_numbered number }
+{
+    match number {
+        0 => Segment::Silent,
+        1 => Segment::Opens,
+        2 => Segment::Carries,
+        _ => Segment::Closes,
+    }
+}
+
 /// What is noted of a packet in hand.
 #[derive(Clone, Copy, Debug, PartialEq, Eq)]
 pub struct Noted {
@@ -129,6 +155,8 @@ pub struct Noted {
     pub source: Endpoint,
     /// The port that it goes to.
     pub dest_port: u16,
+    /// What it tells of its connection, where connections are followed.
+    pub segment: Segment,
     /// The time that it was told, in microseconds.
     pub time: u64,
     /// The word that it was told, or the reason for which it is dropped.
@@ -155,6 +183,7 @@ impl Noted {
                 port: (local.regs[3] % (1 << 16)) as u16,
             },
             dest_port: (local.regs[4] % (1 << 16)) as u16,
+            segment: segment_numbered(local.regs[4] / (1 << 16)),
             time: local.regs[5],
             word: local.regs[6],
             port: (local.regs[7] % (1 << 16)) as u16,
@@ -211,7 +240,7 @@ impl Goes {
                 u64::from(noted.source.protocol),
                 u64::from(noted.source.address),
                 u64::from(noted.source.port),
-                u64::from(noted.dest_port),
+                u64::from(noted.dest_port) + (1 << 16) * number_of_segment(noted.segment),
                 noted.time,
                 noted.word,
                 u64::from(noted.port),

@@ -75,7 +75,11 @@ impl Program for NatBox {
         let goes = match value {
             NatValue::Dropped(drops) => noted.touch_drops(place, drops),
             NatValue::Free(pool) => noted.touch_pool(place, pool),
-            NatValue::Mapped(table) => noted.touch_mappings(place, table)?,
+            NatValue::Mapped(table) => {
+                let goes = noted.touch_mappings(place, table)?;
+                self.follow(&noted, table);
+                goes
+            }
             NatValue::Taken(table) => noted.touch_bound(place, table)?,
         };
         *local = goes.local();

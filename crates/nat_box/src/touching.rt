@@ -1,9 +1,10 @@
 ghost use Rattle.std.specs.Prelude.{◌≡◌, IfOk, OnErr};
 ghost use Rattle.nat_box.specs.Nat.{goes, dropped, mapped, after_find, after_reserve, after_bind};
-ghost use Rattle.nat_box.specs.Nat.{touched, after_endpoint, looked, told};
+ghost use Rattle.nat_box.specs.Nat.{touched, after_endpoint, looked, told, followed_by};
+ghost use Rattle.nat_box.specs.Boxes.{settings_of};
 ghost use Rattle.nat_box.specs.declared.value.NatValue.TheVariants.{Dropped, Free, Mapped, Taken};
 
-use crate::{Class, Goes, Noted, Place};
+use crate::{Class, Goes, NatBox, Noted, Place};
 use flow_boxes::Drops;
 use nat_tables::{Bind, Endpoint, Find, Forward, Freed, Pool, Reverse};
 use plain_text::NoMemory;
@@ -217,6 +218,20 @@ impl Noted {
                 },
             ),
             _ => Goes::to(Place::Ends, self),
+        }
+    }
+}
+
+impl NatBox {
+    /// Notes a packet's segment in the mapping of its source, where connections are followed and it is of TCP.
+    pub(crate) fn follow(&self, noted: &Noted, table: &mut Forward)
+        ensures { table.new ≡ followed_by (settings_of self.now).closing noted.now table.old }
+    {
+        let Some(seconds) = self.closing else {
+            return;
+        };
+        if noted.source.protocol == 6 {
+            table.mark(&noted.source, seconds, noted.segment);
         }
     }
 }

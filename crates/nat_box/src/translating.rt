@@ -1,14 +1,36 @@
 ghost use Rattle.std.specs.Prelude.{◌≡◌, IfOk};
 ghost use Rattle.packet_headers.specs.Rewriting.{CanRewrite};
 ghost use Rattle.nat_box.specs.Nat.{begun, frame_out, bytes_out, noted_flow, nothing_noted};
+ghost use Rattle.nat_box.specs.Nat.{segment_of, segment_told};
 ghost use Rattle.nat_box.specs.Boxes.{settings_of};
 
 use crate::{Class, Goes, NatBox, Noted, Place};
 use flow_boxes::{STRAY, reason_of};
-use nat_tables::{Endpoint, PortKey};
+use nat_tables::{Endpoint, PortKey, Segment};
 use packet_headers::{Flow, NotFlow, set_dest, set_source};
 use plain_text::{Bytes, NoMemory};
 use std::alloc::Global;
+
+/// The control bits that are read here (RFC 9293, section 3.1).
+const FIN_OR_RST: u8 = 5;
+
+const SYN: u8 = 2;
+
+const ACK: u8 = 16;
+
+/// What a segment with these control bits tells of its connection.
+fn segment_of(flags: u8) -> Segment
+    ensures { result ≡ segment_of flags }
+{
+    if flags & FIN_OR_RST != 0 {
+        return Segment::Closes;
+    }
+    match (flags & SYN != 0, flags & ACK != 0) {
+        (true, false) => Segment::Opens,
+        (false, true) => Segment::Carries,
+        (true, true) | (false, false) => Segment::Silent,
+    }
+}
 
 impl Noted {
     /// Nothing is noted but the reason for which the packet is dropped.
@@ -24,6 +46,7 @@ impl Noted {
             class: Class::Outbound,
             source: nowhere,
             dest_port: 0,
+            segment: Segment::Silent,
             time: 0,
             word: reason,
             port: 0,
@@ -36,8 +59,8 @@ impl Noted {
     }
 
     /// What is noted of a flow as its packet begins. The endpoint of the remote is no part of a mapping's key.
-    fn flow(flow: &Flow, class: Class) -> Noted
-        ensures { result ≡ noted_flow flow.now class }
+    fn flow(flow: &Flow, class: Class, segment: Segment) -> Noted
+        ensures { result ≡ noted_flow segment flow.now class }
     {
         Noted {
             class,
@@ -47,6 +70,7 @@ impl Noted {
                 port: flow.source_port,
             },
             dest_port: flow.dest_port,
+            segment,
             time: 0,
             word: 0,
             port: 0,
@@ -64,13 +88,26 @@ impl Noted {
 }
 
 impl NatBox {
+    /// What a segment with these control bits tells: nothing where connections are not followed.
+    fn segment_told(&self, flags: u8) -> Segment
+        ensures { result ≡ segment_told (settings_of self.now).closing flags }
+    {
+        match self.closing {
+            Some(_) => segment_of(flags),
+            None => Segment::Silent,
+        }
+    }
+
     /// Where a packet begins, by its view.
     pub(crate) fn begun(&self, seen: Result<Flow, NotFlow>) -> Goes
         ensures { result ≡ begun (settings_of self.now) seen }
     {
         match seen {
             Ok(flow) => match self.class_of(flow.source, flow.dest) {
-                Some(class) => Goes::to(Place::HearsTime, Noted::flow(&flow, class)),
+                Some(class) => {
+                    let segment = self.segment_told(flow.flags);
+                    Goes::to(Place::HearsTime, Noted::flow(&flow, class, segment))
+                }
                 None => Goes::to(Place::CountsDrop, Noted::reason(STRAY)),
             },
             Err(answer) => Goes::to(Place::CountsDrop, Noted::reason(reason_of(answer))),

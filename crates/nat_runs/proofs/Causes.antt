@@ -20,7 +20,7 @@ use Rattle.flow_boxes.specs.declared.drops.Drops.{Drops}
 use Rattle.nat_box.specs.declared.value.NatValue.{NatValue}
 use Rattle.nat_box.specs.declared.value.NatValue.TheVariants.{Dropped}
 use Rattle.nat_box.specs.Places.{noted}
-use Rattle.nat_box.specs.Nat.{Settings, touched, nat_meaning, Fits}
+use Rattle.nat_box.specs.Nat.{Settings, touched, followed, nat_meaning, Fits}
 use Rattle.nat_box.specs.Lawful.{AreSettings, var_of, touches_it, nat_lawful}
 use Rattle.flow_boxes.proofs.HeldInputs.{IsHeld, run_holds}
 use Rattle.nat_box.proofs.Making.{comes_to}
@@ -38,7 +38,7 @@ Counted s m p x left =
     × (AreBytes p.bytes → Cause s p m reason)
 
 counted : (s : Settings) (m : Met) (p : Packet) (place : Place) (x : NatValue) (n : Noted) → TouchKind place x
-    → var_of s place n ≡ 0 → KnownAt s m p place n → Counted s m p x (touched place x n).0
+    → var_of s place n ≡ 0 → KnownAt s m p place n → Counted s m p x (followed s n (touched place x n).0)
 counted s m p _ _ n (finds es) e k = absurd (omega arith)
 counted s m p _ _ n (unbinds_freed bs) e k = absurd (omega arith)
 counted s m p _ _ n (gives_freed pool) e k = absurd (omega arith)
@@ -62,9 +62,9 @@ module _ (s : Settings) (is : AreSettings s) (packets : List Packet) (value : �
       → (h : Hand) × (before ≡ Some h)
       × Counted s m h.packet (value 0) (left_by 0 (act_of t earlier taken_then d) (value 0))
 
-  at_touch : (h : Hand) (w : ℕ) (after : NatValue) → after ≡ (touched (at h) (value w) (noted h.place)).0
-      → comes_to s h (Access w) → Known s m (Some h)
-      → act_of t earlier taken_then (Touches w after) ≡ Did entry left
+  at_touch : (h : Hand) (w : ℕ) (after : NatValue)
+      → after ≡ followed s (noted h.place) (touched (at h) (value w) (noted h.place)).0 → comes_to s h (Access w)
+      → Known s m (Some h) → act_of t earlier taken_then (Touches w after) ≡ Did entry left
       → Counted s m h.packet (value 0) (cond (nat_eq w 0) after (value 0))
   at_touch h w after q move k e =
       let this : Entry = entry_of t (log_of earlier) (Accessed w (places w (log_of earlier) + 1)) in
@@ -96,9 +96,9 @@ module _ (s : Settings) (is : AreSettings s) (packets : List Packet) (value : �
       → held_move (nat_meaning s) packets value taken a hand ≡ Moves after d → Counts hand after.hand d
   move_counts after d hand a move =
       by_move s packets value taken Counts (λ p input k e. absurd (cc))
-      (λ h w c k e. (h, refl, at_touch h w (touched (at h) (value w) (noted h.place)).0 refl c k e))
       (λ h w c k e.
-      absurd (not_read w (places w (log_of earlier)) (what_of (WasRead w (places w (log_of earlier))) e)))
+      (h, refl, at_touch h w (followed s (noted h.place) (touched (at h) (value w) (noted h.place)).0) refl c k e))
+      (λ h w c k e. absurd (not_read w (places w (log_of earlier)) (what_of (WasRead w (places w (log_of earlier))) e)))
       (λ h x c k e. absurd (not_heard x (what_of (Heard x) e))) (λ h x c k e. absurd (not_drew x (what_of (Drew x) e)))
       (λ h c k e. absurd (cc)) (λ h c k e. absurd (cc)) after d hand a move
 

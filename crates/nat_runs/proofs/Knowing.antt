@@ -1,6 +1,6 @@
 -- What is known of a packet in hand, by where it is and by what its moves met.
 use Rattle.std.proofs.Common.{◌≡◌, ◌≢◌, ℕ, ◌+◌, ◌*◌, ◌%◌, ◌^◌, ◌<◌, ◌≤◌, Bool, true, false, List, [], ◌∷◌, ◌++◌, refl}
-use Rattle.std.proofs.Common.{sym, ap}
+use Rattle.std.proofs.Common.{sym, ap, ◌/◌}
 use Rattle.std.proofs.Common.{◌∙◌, subst, ◌⊎◌, inl, inr, arith, Option, Some, None}
 use Rattle.std.specs.Prelude.{Result, Ok, Err}
 use Rattle.plain_text.specs.declared.packet.Packet.{Packet}
@@ -19,7 +19,12 @@ use Rattle.plain_machine.proofs.Bounds.{values_fit}
 use Rattle.nat_tables.specs.declared.entries.Endpoint.{Endpoint}
 use Rattle.nat_tables.specs.declared.entries.PortKey.{PortKey}
 use Rattle.nat_tables.specs.declared.slot.Slot.{Slot}
-use Rattle.nat_tables.specs.declared.entries.Bind.TheVariants.{Other}
+use Rattle.nat_tables.specs.declared.phase.Phase.TheVariants.{Plain}
+use Rattle.nat_tables.specs.declared.phase.Segment.{Segment}
+use Rattle.nat_tables.specs.declared.entries.Find.{Find}
+use Rattle.nat_tables.specs.declared.entries.Find.TheVariants.{Live, Absent}
+use Rattle.nat_tables.specs.declared.entries.Bind.{Bind}
+use Rattle.nat_tables.specs.declared.entries.Bind.TheVariants.{Bound, Other}
 use Rattle.nat_tables.specs.Keys.{port_key}
 use Rattle.nat_tables.specs.Ports.{PoolPorts, reserve}
 use Rattle.nat_tables.specs.Forwards.{Forwards, refresh, refreshed, is_idle, slot_of, first_idle, found_there, found}
@@ -37,19 +42,20 @@ use Rattle.nat_box.specs.declared.place.Noted.{Noted}
 use Rattle.nat_box.specs.declared.value.NatValue.{NatValue}
 use Rattle.nat_box.specs.declared.value.NatValue.TheVariants.{Dropped, Free, Mapped, Taken}
 use Rattle.flow_boxes.specs.Flows.{endpoint, source_of}
-use Rattle.nat_box.specs.Places.{place_numbered, noted, dest_key, local_of}
+use Rattle.nat_box.specs.Places.{place_numbered, noted, dest_key, local_of, number_of_segment, segment_numbered}
 use Rattle.nat_box.specs.declared.place.Goes.{Goes}
 use Rattle.nat_box.specs.Nat.{Settings, goes, forward_table, reverse_table, class_of_flow, noted_flow}
 use Rattle.flow_boxes.specs.Drops.{reason_of}
-use Rattle.nat_box.specs.Nat.{begun_as}
+use Rattle.nat_box.specs.Nat.{begun_as, segment_told, followed_by, followed}
 use Rattle.nat_box.specs.Nat.{begun, mapped, after_find, after_reserve, after_bind, touched, after_endpoint, looked_by}
 use Rattle.nat_box.specs.Nat.{looked, after_time, told, local_at, nat_meaning, MayMap, MayBind, Fits}
-use Rattle.nat_box.specs.Noting.{place_again, class_again, IsNoted, is_noted, noted_again}
+use Rattle.nat_box.specs.Noting.{place_again, class_again, segment_again, IsNoted, is_noted, noted_again}
 use Rattle.nat_box.specs.Lawful.{AreSettings, var_of, touches_it, reads_it, nat_lawful}
 use Rattle.nat_box.specs.PortStanding.{free_at}
 use Rattle.nat_box.specs.Sentences.{Has, mappings_in, bound_in}
 use Rattle.nat_box.proofs.Noting.{touched_noted}
 use Rattle.nat_box.proofs.Making.{goes_on}
+use Rattle.nat_box.proofs.Following.{slot_followed}
 use Rattle.nat_runs.specs.Classes.{IsFromInside, GoesInside}
 use Rattle.nat_runs.specs.Met.{Met, nothing_met, met_by_touch, met_by_read, met_by, met_of}
 use Rattle.nat_runs.specs.Causes.{IsUnbound, HasNoneUsed, FoundNoneUsed, Cause}
@@ -67,6 +73,7 @@ pub record IsBase (s : Settings) (p : Packet) (n : Noted) : Type 0 where
   pub class : class_of_flow s flow.source flow.dest ≡ Some n.class
   pub source : AreBytes p.bytes → n.source ≡ source_of flow
   pub dest_port : AreBytes p.bytes → n.dest_port ≡ flow.dest_port
+  pub segment : AreBytes p.bytes → n.segment ≡ segment_told s.closing flow.flags
 
 -- it knows the time
 abbrev pub IsTold : Settings → Met → Packet → Noted → Type 0
@@ -192,20 +199,53 @@ goes_inside s p n base inward = by (class_of_flow s base.flow.source base.flow.d
     by o Hairpin e inward = inr e
     by o Inbound e inward = inl e
 
+-- where a packet may go from a forward table
+abbrev IsMappingPlace : Place → Type 0
+IsMappingPlace HearsTime = Unit {0}
+IsMappingPlace FindsMapping = Unit {0}
+IsMappingPlace UnbindsFreed = Unit {0}
+IsMappingPlace GivesBackFreed = Unit {0}
+IsMappingPlace DrawsWord = Unit {0}
+IsMappingPlace ReservesPort = Unit {0}
+IsMappingPlace BindsPort = Unit {0}
+IsMappingPlace FindsOrBinds = Unit {0}
+IsMappingPlace UnbindsLost = Unit {0}
+IsMappingPlace GivesBackLost = ⊥
+IsMappingPlace FindsEndpoint = Unit {0}
+IsMappingPlace AsksIfLives = ⊥
+IsMappingPlace CountsDrop = ⊥
+IsMappingPlace SendsOut = Unit {0}
+IsMappingPlace Ends = Unit {0}
+
+mapped_place : (n : Noted) (c : Class) → IsMappingPlace (mapped n c).place
+mapped_place n Outbound = tt
+mapped_place n Hairpin = tt
+mapped_place n Inbound = tt
+
+find_place : (n : Noted) (f : Find) → IsMappingPlace (after_find n f).place
+find_place n (Live port) = mapped_place (record n { port = port }) n.class
+find_place n (Absent (Some freed)) = tt
+find_place n (Absent None) = tt
+
+bind_place : (n : Noted) (b : Bind) → IsMappingPlace (after_bind n b).place
+bind_place n Bound = mapped_place n n.class
+bind_place n (Other port) = tt
+
 given_outward : (c : Class) (X : Type 0) → X → IfOutward c X
 given_outward Outbound X x = x
 given_outward Hairpin X x = x
 given_outward Inbound X x = tt
 
 module _ (s : Settings) (p : Packet) where
-  base_on : (n o : Noted) → o.class ≡ n.class → o.source ≡ n.source → o.dest_port ≡ n.dest_port → IsBase s p n
-      → IsBase s p o
-  base_on n o c f d b = record {
+  base_on : (n o : Noted) → o.class ≡ n.class → o.source ≡ n.source → o.dest_port ≡ n.dest_port
+      → o.segment ≡ n.segment → IsBase s p n → IsBase s p o
+  base_on n o c f d g b = record {
     flow = b.flow;
     seen = b.seen;
     class = b.class ∙ ap Some (sym c);
     source = λ bytes. f ∙ b.source bytes;
     dest_port = λ bytes. d ∙ b.dest_port bytes;
+    segment = λ bytes. g ∙ b.segment bytes;
   }
 
   mapped_known : (m : Met) (n : Noted) (c : Class) → n.class ≡ c → IsOnWay s m p n → Refreshed m n
@@ -232,28 +272,84 @@ module _ (s : Settings) (p : Packet) where
         → (let f = found_there n.source n.time es slot idle in
         KnownAt s (leaving f.1) p (after_find n f.0).place (after_find n f.0).noted)
     there_known slot true is =
-        (base_on n (record n { freed = port_of (n.source, slot) }) refl refl refl k.0, k.1, k.2)
+        (base_on n (record n { freed = port_of (n.source, slot) }) refl refl refl refl k.0, k.1, k.2)
     there_known slot false is =
         let o : Noted = record n { port = slot.port } in
-        mapped_known (leaving (refresh n.source n.time es)) o o.class refl (base_on n o refl refl refl k.0, k.1, k.2)
-        (refreshes slot is)
+        mapped_known (leaving (refresh n.source n.time es)) o o.class refl
+        (base_on n o refl refl refl refl k.0, k.1, k.2) (refreshes slot is)
 
     found_known : (a : Option Slot) (b : Option (Endpoint × Slot)) → slot_of n.source es ≡ a
         → (let f = found n.source n.time es a b in
         KnownAt s (leaving f.1) p (after_find n f.0).place (after_find n f.0).noted)
     found_known (Some slot) b is = there_known slot (is_idle n.time (n.source, slot)) is
-    found_known None (Some gone) is = (base_on n (record n { freed = port_of gone }) refl refl refl k.0, k.1, k.2)
+    found_known None (Some gone) is = (base_on n (record n { freed = port_of gone }) refl refl refl refl k.0, k.1, k.2)
     found_known None None is = k
 
     bound_known : (a : Option Slot) → slot_of n.source es ≡ a
         → (let f = bound n.source n.port n.time es a in
         KnownAt s (leaving f.1) p (after_bind n f.0).place (after_bind n f.0).noted)
     bound_known (Some slot) is =
-        ((base_on n (after_bind n (Other slot.port)).noted refl refl refl k.0, k.1, k.2), refreshes slot is)
+        ((base_on n (after_bind n (Other slot.port)).noted refl refl refl refl k.0, k.1, k.2), refreshes slot is)
     bound_known None is =
-        let slot : Slot = record { port = n.port; last = n.time } in
+        let slot : Slot = record { port = n.port; last = n.time; phase = Plain } in
         let left : Forwards = es ++ (n.source, slot) ∷ [] in
         mapped_known (leaving left) n n.class refl k (left, slot, refl, slot_bound n.source slot es is, omega arith)
+
+  -- the segment of the packet is noted in the mapping of its source
+
+  refreshed_followed : (m q : Met) (n : Noted) (c : Option ℕ) (u : Noted) (es : Forwards) → m.left ≡ Some es
+      → q.left ≡ Some (followed_by c u es) → Refreshed m n → Refreshed q n
+  refreshed_followed m q n c u es was now r =
+      let same : Some r.0 ≡ Some es = sym r.2 ∙ was in
+      let e : r.0 ≡ es = cc in
+      let later = slot_followed c u es n.source r.1 (subst (λ (x : Forwards). slot_of n.source x ≡ Some r.1) e r.3) in (
+        followed_by c u es,
+        later.0,
+        now,
+        later.1,
+        subst (λ (time : ℕ). n.time ≤ time) (sym later.3) r.4,
+      )
+
+  outward_by : (c : Class) (X Y : Type 0) → (X → Y) → IfOutward c X → IfOutward c Y
+  outward_by Outbound X Y f k = f k
+  outward_by Hairpin X Y f k = f k
+  outward_by Inbound X Y f k = tt
+
+  left_by_followed : (m : Met) (c : Option ℕ) (u : Noted) (es : Forwards) (place : Place) (n : Noted)
+      → IsMappingPlace place → KnownAt s (record m { left = Some es }) p place n
+      → KnownAt s (record m { left = Some (followed_by c u es) }) p place n
+  left_by_followed m c u es UnbindsFreed n is k = k
+  left_by_followed m c u es DrawsWord n is k = k
+  left_by_followed m c u es UnbindsLost n is k = (
+    k.0,
+    refreshed_followed (record m { left = Some es }) (record m { left = Some (followed_by c u es) }) n c u es refl refl
+        k.1,
+  )
+  left_by_followed m c u es FindsEndpoint n is k = (
+    k.0,
+    k.1,
+    outward_by n.class (Refreshed (record m { left = Some es }) n)
+        (Refreshed (record m { left = Some (followed_by c u es) }) n)
+        (refreshed_followed (record m { left = Some es }) (record m { left = Some (followed_by c u es) }) n c u es refl
+        refl) k.2,
+  )
+  left_by_followed m c u es SendsOut n is k = (
+    k.0,
+    outward_by n.class (Refreshed (record m { left = Some es }) n)
+        (Refreshed (record m { left = Some (followed_by c u es) }) n)
+        (refreshed_followed (record m { left = Some es }) (record m { left = Some (followed_by c u es) }) n c u es refl
+        refl) k.1,
+  )
+  left_by_followed m c u es HearsTime n is k = k
+  left_by_followed m c u es FindsMapping n is k = k
+  left_by_followed m c u es GivesBackFreed n is k = k
+  left_by_followed m c u es ReservesPort n is k = k
+  left_by_followed m c u es BindsPort n is k = k
+  left_by_followed m c u es FindsOrBinds n is k = k
+  left_by_followed m c u es GivesBackLost n is k = absurd is
+  left_by_followed m c u es AsksIfLives n is k = absurd is
+  left_by_followed m c u es CountsDrop n is k = absurd is
+  left_by_followed m c u es Ends n is k = tt
 
   -- a touch, and a read, of variables with these values
   module _ (value : ℕ → NatValue) (fits : (v : ℕ) → v < 2 + 2 * s.shards → Fits s v (value v)) where
@@ -273,7 +369,7 @@ module _ (s : Settings) (p : Packet) where
         → (reserve n.source.protocol n.source.port n.word pool).0 ≡ o → IsOnWay s m p n
         → KnownAt s (record m { at_pool = Some value }) p (after_reserve n o).place (after_reserve n o).noted
     reserved_known m n pool w (Some port) is at e k =
-        (base_on n (record n { port = port }) refl refl refl k.0, k.1, k.2)
+        (base_on n (record n { port = port }) refl refl refl refl k.0, k.1, k.2)
     reserved_known m n pool w None is at e k = (omega arith, omega arith, cause)
       where
         cause : AreBytes p.bytes → Cause s p (record m { at_pool = Some value }) 8
@@ -291,15 +387,20 @@ module _ (s : Settings) (p : Packet) where
     touch_known : (m : Met) (w : ℕ) (place : Place) (x : NatValue) (n : Noted) → value w ≡ x → TouchKind place x
         → var_of s place n ≡ w → KnownAt s m p place n
         → (let r = touched place x n in
-        KnownAt s (met_by_touch value x (Some r.0) m) p r.1.place r.1.noted)
+        KnownAt s (met_by_touch value x (Some (followed s n r.0)) m) p r.1.place r.1.noted)
     touch_known m w _ _ n is (finds es) at k =
-        found_known m n es k (slot_of n.source es) (first_idle n.time es) refl
+        let f = found n.source n.time es (slot_of n.source es) (first_idle n.time es) in
+        left_by_followed m s.closing n f.1 (after_find n f.0).place (after_find n f.0).noted (find_place n f.0)
+        (found_known m n es k (slot_of n.source es) (first_idle n.time es) refl)
     touch_known m w _ _ n is (unbinds_freed bs) at k = k
     touch_known m w _ _ n is (gives_freed pool) at k = k
     touch_known m w _ _ n is (reserves pool) at k =
         reserved_known m n pool w (reserve n.source.protocol n.source.port n.word pool).0 is at refl k
     touch_known m w _ _ n is (binds bs) at k = k
-    touch_known m w _ _ n is (finds_or_binds es) at k = bound_known m n es k (slot_of n.source es) refl
+    touch_known m w _ _ n is (finds_or_binds es) at k =
+        let b = bound n.source n.port n.time es (slot_of n.source es) in
+        left_by_followed m s.closing n b.1 (after_bind n b.0).place (after_bind n b.0).noted (bind_place n b.0)
+        (bound_known m n es k (slot_of n.source es) refl)
     touch_known m w _ _ n is (unbinds_lost bs) at k = k
     touch_known m w _ _ n is (gives_lost pool) at k =
         mapped_known (record m { at_pool = Some value }) n n.class refl k.0 k.1
@@ -314,7 +415,7 @@ module _ (s : Settings) (p : Packet) where
         → reverse_table s (dest_key n) ≡ w → endpoint_of (dest_key n) bs ≡ o → KnownAt s m p FindsEndpoint n
         → KnownAt s (record m { at_reverse = Some value }) p (after_endpoint n o).place (after_endpoint n o).noted
     endpoint_known m n bs w (Some key) is at e k = (
-      (base_on n (after_endpoint n (Some key)).noted refl refl refl k.0.0, k.0.1),
+      (base_on n (after_endpoint n (Some key)).noted refl refl refl refl k.0.0, k.0.1),
       k.1,
       k.2,
       (
@@ -414,13 +515,14 @@ module _ (s : Settings) (p : Packet) where
   -- the fields of a flow of bytes, as they are noted
   base_begun : (flow : Flow) (class : Class) → viewed p.bytes p.original ≡ Ok flow
       → class_of_flow s flow.source flow.dest ≡ Some class
-      → IsBase s p (noted (local_of HearsTime (noted_flow flow class)))
+      → IsBase s p (noted (local_of HearsTime (noted_flow (segment_told s.closing flow.flags) flow class)))
   base_begun flow class seen is = record {
     flow = flow;
     seen = seen;
     class = is ∙ ap Some (sym (class_again class));
     source = source;
     dest_port = dest_port;
+    segment = segment;
   }
     where
       same : flow_of p.bytes ≡ flow
@@ -439,10 +541,24 @@ module _ (s : Settings) (p : Packet) where
           let f : flow.source_port % 2 ^ 16 ≡ flow.source_port = omega arith in
           λ i. endpoint (d i) (e i) (f i)
 
-      dest_port : AreBytes p.bytes → flow.dest_port % 2 ^ 16 ≡ flow.dest_port
-      dest_port bytes =
-          let a : (flow_of p.bytes).dest_port < 2 ^ 16 = word_fits p.bytes (header_end p.bytes + 2) bytes in
-          let b : flow.dest_port < 2 ^ 16 = subst (λ (f : Flow). f.dest_port < 2 ^ 16) same a in omega arith
+      told : Segment
+      told = segment_told s.closing flow.flags
+
+      low : AreBytes p.bytes → flow.dest_port < 2 ^ 16
+      low bytes =
+          subst (λ (f : Flow). f.dest_port < 2 ^ 16) same (word_fits p.bytes (header_end p.bytes + 2) bytes)
+
+      dest_port : AreBytes p.bytes
+          → (flow.dest_port + 2 ^ 16 * number_of_segment told) % 2 ^ 16 ≡ flow.dest_port
+      dest_port bytes = let b = low bytes in omega arith
+
+      segment : AreBytes p.bytes
+          → segment_numbered ((flow.dest_port + 2 ^ 16 * number_of_segment told) / 2 ^ 16) ≡ told
+      segment bytes =
+          let b = low bytes in
+          let above : (flow.dest_port + 2 ^ 16 * number_of_segment told) / 2 ^ 16 ≡ number_of_segment told =
+          omega arith in
+          ap segment_numbered above ∙ segment_again told
 
   begun_known : (seen : Result Flow NotFlow) → viewed p.bytes p.original ≡ seen
       → Known s nothing_met (Some (record { packet = p; place = local_at (begun s seen) }))
@@ -451,7 +567,8 @@ module _ (s : Settings) (p : Packet) where
   begun_known (Ok flow) is = by (class_of_flow s flow.source flow.dest) refl
     where
       by : (o : Option Class) → class_of_flow s flow.source flow.dest ≡ o
-          → Known s nothing_met (Some (record { packet = p; place = local_at (begun_as flow o) }))
+          → Known s nothing_met
+          (Some (record { packet = p; place = local_at (begun_as (segment_told s.closing flow.flags) flow o) }))
       by None q = (omega arith, omega arith, λ bytes. inr (inl (flow, is, q, refl)))
       by (Some class) q = base_begun flow class is q
 
@@ -473,7 +590,7 @@ module _ (s : Settings) (is : AreSettings s) (packets : List Packet) (value : �
       (known_on s (record m { clock = Some a }) h (after_time o o.class)
       (time_noted o o.class (timed n a (is_noted h.place)))
       (time_known s h.packet (record m { clock = Some a }) o o.class refl
-      (base_on s h.packet n o refl refl refl base) refl))
+      (base_on s h.packet n o refl refl refl refl base) refl))
 
   told_word : (h : Hand) (a : ℕ) (place : Place) → place ≡ DrawsWord → KnownAt s m h.packet place (noted h.place)
       → Known s m (goes_on h (told place a (noted h.place)))
@@ -483,7 +600,7 @@ module _ (s : Settings) (is : AreSettings s) (packets : List Packet) (value : �
       let on : IsOnWay s m h.packet n = subst (λ (z : Place). KnownAt s m h.packet z n) q k in
       subst (λ (z : Place). Known s m (goes_on h (told z a n))) (sym q)
       (known_on s m h (goes ReservesPort o) (worded n a (is_noted h.place))
-      (base_on s h.packet n o refl refl refl on.0, on.1, on.2))
+      (base_on s h.packet n o refl refl refl refl on.0, on.1, on.2))
 
   pub move_keeps : (after : Thread) (d : Effect NatValue) (hand : Option Hand) (a : Option ℕ)
       → held_move (nat_meaning s) packets value taken a hand ≡ Moves after d → Keeps hand after.hand d
@@ -492,7 +609,7 @@ module _ (s : Settings) (is : AreSettings s) (packets : List Packet) (value : �
       (λ h v w k.
       let below = touched_below s is h v w in
       let r = touched (at h) (value v) (noted h.place) in
-      known_on s (met_by_touch value (value v) (Some r.0) m) h r.1
+      known_on s (met_by_touch value (value v) (Some (followed s (noted h.place) r.0)) m) h r.1
       (touched_noted s (at h) (value v) (noted h.place) v (is_noted h.place) (fits v below))
       (touch_known s h.packet value fits m v (at h) (value v) (noted h.place) refl
       (touch_kind s is.some (noted h.place) v (value v) (fits v below) (at h) w)

@@ -1,10 +1,13 @@
 pub mod TableEntries
+pub mod MarkedEntries
 pub mod ThreadMoves
 pub mod Knowing
 pub mod Staying
+pub mod Following
 pub mod Used
 pub mod Inbound
 pub mod DropCounts
 pub mod Causes
 pub mod Passing
 pub mod Refreshing
+pub mod Phasing

@@ -34,7 +34,8 @@ use Rattle.nat_box.specs.declared.value.NatValue.TheVariants.{Dropped, Free, Map
 use Rattle.nat_box.specs.Places.{noted, dest_key}
 use Rattle.nat_box.specs.declared.place.Goes.{Goes}
 use Rattle.nat_box.specs.Nat.{Settings, class_of_flow, begun_as, begun, mapped, after_find, after_reserve, after_bind}
-use Rattle.nat_box.specs.Nat.{touched, after_endpoint, looked_by, looked, after_time, told, nat_meaning, Fits}
+use Rattle.nat_box.specs.Nat.{touched, followed, after_endpoint, looked_by, looked, after_time, told, nat_meaning}
+use Rattle.nat_box.specs.Nat.{segment_told, Fits}
 use Rattle.nat_box.specs.Noting.{place_again}
 use Rattle.nat_box.specs.Lawful.{AreSettings, var_of, touches_it, nat_lawful}
 use Rattle.flow_boxes.proofs.Summing.{one_changes, sum_of_none, term_of_sum}
@@ -58,7 +59,7 @@ begun_waits : (s : Settings) (seen : Result Flow NotFlow) → waits_at (begun s 
 begun_waits s (Err answer) = refl
 begun_waits s (Ok flow) = by (class_of_flow s flow.source flow.dest)
   where
-    by : (o : Option Class) → waits_at (begun_as flow o).place ≡ 1
+    by : (o : Option Class) → waits_at (begun_as (segment_told s.closing flow.flags) flow o).place ≡ 1
     by (Some class) = refl
     by None = refl
 
@@ -159,7 +160,8 @@ module _ (s : Settings) (is : AreSettings s) (packets : List Packet) (value : �
 
   at_count : (h : Hand) (place : Place) (x : NatValue) → TouchKind place x → var_of s place (noted h.place) ≡ 0
       → AreNine x → KnownAt s m h.packet place (noted h.place)
-      → (let r = touched place x (noted h.place) in Sums (waits (goes_on h r.1)) r.0 x (waits_at place))
+      → (let r = touched place x (noted h.place) in
+      Sums (waits (goes_on h r.1)) (followed s (noted h.place) r.0) x (waits_at place))
   at_count h _ _ (finds es) e long k = absurd long
   at_count h _ _ (unbinds_freed bs) e long k = absurd long
   at_count h _ _ (gives_freed pool) e long k = absurd long
@@ -176,7 +178,8 @@ module _ (s : Settings) (is : AreSettings s) (packets : List Packet) (value : �
 
   at_touch : (h : Hand) (w : ℕ) → comes_to s h (Access w) → Known s m (Some h)
       → (let r = touched (at h) (value w) (noted h.place) in
-      Sums (waits (goes_on h r.1)) (cond (nat_eq w 0) r.0 (value 0)) (value 0) (waits_at (at h)))
+      Sums (waits (goes_on h r.1)) (cond (nat_eq w 0) (followed s (noted h.place) r.0) (value 0)) (value 0)
+      (waits_at (at h)))
   at_touch h w move k = by (is_or w 0)
     where
       n : Noted
@@ -186,7 +189,7 @@ module _ (s : Settings) (is : AreSettings s) (packets : List Packet) (value : �
       after = waits (goes_on h (touched (at h) (value w) n).1)
 
       left : NatValue
-      left = (touched (at h) (value w) n).0
+      left = followed s n (touched (at h) (value w) n).0
 
       it : var_of s (at h) n ≡ w
       it = touches_it s (at h) n w move

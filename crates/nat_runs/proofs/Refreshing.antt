@@ -23,7 +23,7 @@ use Rattle.nat_box.specs.declared.place.Noted.{Noted}
 use Rattle.nat_box.specs.declared.value.NatValue.{NatValue}
 use Rattle.nat_box.specs.declared.value.NatValue.TheVariants.{Mapped}
 use Rattle.nat_box.specs.Places.{noted}
-use Rattle.nat_box.specs.Nat.{Settings, class_of_flow, touched, nat_meaning, Fits}
+use Rattle.nat_box.specs.Nat.{Settings, class_of_flow, touched, followed, nat_meaning, Fits}
 use Rattle.nat_box.specs.Lawful.{AreSettings, nat_lawful}
 use Rattle.nat_box.specs.Sentences.{Has, mappings_in}
 use Rattle.flow_boxes.specs.Flows.{source_of}
@@ -31,6 +31,7 @@ use Rattle.flow_boxes.proofs.HeldInputs.{IsHeld, run_holds}
 use Rattle.nat_box.proofs.Making.{comes_to}
 use Rattle.nat_runs.specs.Met.{Met, met_of}
 use Rattle.nat_runs.specs.Refreshing.{ComesFrom, HostsRefresh, HasRefreshed, SentRefresh}
+use Rattle.nat_runs.proofs.MarkedEntries.{followed_was, was_before}
 use Rattle.nat_runs.proofs.TableEntries.{slot_in, WasOr, refresh_was, bound_was, without_was, without_idle_was}
 use Rattle.nat_runs.proofs.ThreadMoves.{TouchKind, finds, unbinds_freed, gives_freed, reserves, binds, finds_or_binds}
 use Rattle.nat_runs.proofs.ThreadMoves.{unbinds_lost, gives_lost, counts, touch_kind, at_emit, at, touched_below}
@@ -72,15 +73,18 @@ module _ (s : Settings) (m : Met) (p : Packet) (e : Endpoint × Slot) where
       ))
 
   touch_was : (place : Place) (x : NatValue) (n : Noted) → TouchKind place x → KnownAt s m p place n
-      → Has (mappings_in (touched place x n).0) e → Was x
+      → Has (mappings_in (followed s n (touched place x n).0)) e → Was x
   touch_was _ _ n (finds es) k h =
-      was_of n es k (found_was n.source n.time es (slot_of n.source es) (first_idle n.time es) e h)
+      was_of n es k (was_before n.source e (found n.source n.time es (slot_of n.source es) (first_idle n.time es)).1 es
+      (followed_was s.closing n _ e h)
+      (found_was n.source n.time es (slot_of n.source es) (first_idle n.time es) e))
   touch_was _ _ n (unbinds_freed bs) k h = absurd h
   touch_was _ _ n (gives_freed pool) k h = absurd h
   touch_was _ _ n (reserves pool) k h = absurd h
   touch_was _ _ n (binds bs) k h = absurd h
   touch_was _ _ n (finds_or_binds es) k h =
-      was_of n es k (bind_was n.source n.port n.time es (slot_of n.source es) e h)
+      was_of n es k (was_before n.source e (bound n.source n.port n.time es (slot_of n.source es)).1 es
+      (followed_was s.closing n _ e h) (bind_was n.source n.port n.time es (slot_of n.source es) e))
   touch_was _ _ n (unbinds_lost bs) k h = absurd h
   touch_was _ _ n (gives_lost pool) k h = absurd h
   touch_was _ _ n (counts d) k h = absurd h
@@ -132,13 +136,14 @@ module _ (s : Settings) (is : AreSettings s) (packets : List Packet) (value : �
         ⊎ ((h : Hand) × (before ≡ Some h) × (AreBytes h.packet.bytes → ComesFrom s e.0 h.packet))
 
     at_touch : (h : Hand) (w : ℕ) → comes_to s h (Access w) → Known s m (Some h)
-        → Has (mappings_in (cond (nat_eq w v) (touched (at h) (value w) (noted h.place)).0 (value v))) e
+        → Has (mappings_in
+        (cond (nat_eq w v) (followed s (noted h.place) (touched (at h) (value w) (noted h.place)).0) (value v))) e
         → Has (mappings_in (value v)) e
         ⊎ ((g : Hand) × (Some h ≡ Some g) × (AreBytes g.packet.bytes → ComesFrom s e.0 g.packet))
     at_touch h w move k there = by (is_or w v)
       where
         left : NatValue
-        left = (touched (at h) (value w) (noted h.place)).0
+        left = followed s (noted h.place) (touched (at h) (value w) (noted h.place)).0
 
         as_hand : Was s m h.packet e (value w) → w ≡ v
             → Has (mappings_in (value v)) e

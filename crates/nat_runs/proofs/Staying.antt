@@ -1,5 +1,5 @@
 -- A mapping stays until it is idle.
-use Rattle.std.proofs.Common.{◌≡◌, ◌≢◌, ℕ, ◌+◌, ◌*◌, ◌<◌, Bool, true, false, List, refl, sym, ap, ◌∙◌, subst}
+use Rattle.std.proofs.Common.{◌≡◌, ◌≢◌, ℕ, ◌+◌, ◌*◌, ◌<◌, ◌≤◌, Bool, true, false, List, refl, sym, ap, ◌∙◌, subst}
 use Rattle.std.proofs.Common.{◌⊎◌, inl, inr, arith, Option, Some, None}
 use Rattle.std.specs.Prelude.{cond, nat_eq}
 use Rattle.plain_text.specs.declared.packet.Packet.{Packet}
@@ -17,13 +17,14 @@ use Rattle.nat_box.specs.declared.place.Noted.{Noted}
 use Rattle.nat_box.specs.declared.value.NatValue.{NatValue}
 use Rattle.nat_box.specs.declared.value.NatValue.TheVariants.{Mapped}
 use Rattle.nat_box.specs.Places.{noted}
-use Rattle.nat_box.specs.Nat.{Settings, touched, nat_meaning, MayMap, Fits}
+use Rattle.nat_box.specs.Nat.{Settings, touched, followed_by, followed, nat_meaning, MayMap, Fits}
 use Rattle.nat_box.specs.Lawful.{AreSettings, nat_lawful}
 use Rattle.nat_box.specs.Sentences.{Has, mappings_in}
 use Rattle.nat_box.proofs.Making.{comes_to}
 use Rattle.nat_runs.specs.Met.{Met, met_of}
 use Rattle.nat_runs.specs.Idle.{IsIdle}
 use Rattle.nat_runs.specs.Staying.{Stays, IsGoneIdle, MappingsStay}
+use Rattle.nat_runs.proofs.MarkedEntries.{followed_has, followed_had}
 use Rattle.nat_runs.proofs.TableEntries.{idle_is, IsLater, IsLeftOr, refreshed_in, in_front, left_without}
 use Rattle.nat_runs.proofs.TableEntries.{left_without_idle, own_slot}
 use Rattle.nat_runs.proofs.ThreadMoves.{TouchKind, finds, unbinds_freed, gives_freed, reserves, binds, finds_or_binds}
@@ -50,7 +51,7 @@ module _ (m : Met) (e : Endpoint × Slot) where
     stays_or Why es idle (inl h) = unchanged (Mapped es) h
     stays_or Why es idle (inr k) = inr (now, clock, idle k.0, k.1)
 
-    module _ (May : Endpoint → ℕ → Type 0) (es : Forwards) (all : AreMappings May es) (h : Has es e) (key : Endpoint)
+    module _ (May : Endpoint → Slot → Type 0) (es : Forwards) (all : AreMappings May es) (h : Has es e) (key : Endpoint)
       where
         there_keeps : (slot : Slot) (i : Bool) → slot_of key es ≡ Some slot → is_idle now (key, slot) ≡ i
             → Kept (Mapped (found_there key now es slot i).1)
@@ -69,17 +70,33 @@ module _ (m : Met) (e : Endpoint × Slot) where
         bound_keeps port (Some slot) = stays _ (refreshed_in key now es e h)
         bound_keeps port None = unchanged (Mapped _) (in_front e es _ h)
 
+  -- and noting a segment keeps it so
+  followed_keeps : (c : Option ℕ) (n : Noted) (es : Forwards) → Kept (Mapped es) → Kept (Mapped (followed_by c n es))
+  followed_keeps c n es (inl k) =
+      let new = followed_has c n es e.0 k.0 k.1 in
+      inl (
+        new.0,
+        new.1,
+        new.2 ∙ k.2,
+        subst (λ (time : ℕ). e.1.last ≤ time) (sym new.3) k.3,
+        subst (λ (time : ℕ). (time ≡ e.1.last) ⊎ (m.clock ≡ Some time)) (sym new.3) k.4,
+      )
+  followed_keeps c n es (inr k) =
+      inr (k.0, k.1, k.2, λ later h. let old = followed_had c n es e.0 later h in k.3 old.0 old.1)
+
   module _ (s : Settings) (p : Packet) where
     touch_keeps : (v : ℕ) (place : Place) (x : NatValue) (n : Noted) → TouchKind place x → Fits s v x
-        → KnownAt s m p place n → Has (mappings_in x) e → Kept (touched place x n).0
+        → KnownAt s m p place n → Has (mappings_in x) e → Kept (followed s n (touched place x n).0)
     touch_keeps v _ _ n (finds es) fits k h =
-        found_keeps n.time k.1 (MayMap s v) es fits.2 h n.source (slot_of n.source es) (first_idle n.time es) refl
+        followed_keeps s.closing n (found n.source n.time es (slot_of n.source es) (first_idle n.time es)).1
+        (found_keeps n.time k.1 (MayMap s v) es fits.2 h n.source (slot_of n.source es) (first_idle n.time es) refl)
     touch_keeps v _ _ n (unbinds_freed bs) fits k h = absurd h
     touch_keeps v _ _ n (gives_freed pool) fits k h = absurd h
     touch_keeps v _ _ n (reserves pool) fits k h = absurd h
     touch_keeps v _ _ n (binds bs) fits k h = absurd h
     touch_keeps v _ _ n (finds_or_binds es) fits k h =
-        bound_keeps n.time k.1 (MayMap s v) es fits.2 h n.source n.port (slot_of n.source es)
+        followed_keeps s.closing n (bound n.source n.port n.time es (slot_of n.source es)).1
+        (bound_keeps n.time k.1 (MayMap s v) es fits.2 h n.source n.port (slot_of n.source es))
     touch_keeps v _ _ n (unbinds_lost bs) fits k h = absurd h
     touch_keeps v _ _ n (gives_lost pool) fits k h = absurd h
     touch_keeps v _ _ n (counts d) fits k h = absurd h
@@ -92,11 +109,11 @@ module _ (s : Settings) (is : AreSettings s) (packets : List Packet) (value : �
   Keeps before after d = Known s m before → Kept m e (left_by v (act_of t earlier taken_then d) (value v))
 
   at_touch : (h : Hand) (w : ℕ) → comes_to s h (Access w) → Known s m (Some h)
-      → Kept m e (cond (nat_eq w v) (touched (at h) (value w) (noted h.place)).0 (value v))
+      → Kept m e (cond (nat_eq w v) (followed s (noted h.place) (touched (at h) (value w) (noted h.place)).0) (value v))
   at_touch h w move k = by (is_or w v)
     where
       left : NatValue
-      left = (touched (at h) (value w) (noted h.place)).0
+      left = followed s (noted h.place) (touched (at h) (value w) (noted h.place)).0
 
       by : (w ≡ v) ⊎ (w ≢ v) → Kept m e (cond (nat_eq w v) left (value v))
       by (inl q) =

@@ -1,5 +1,5 @@
 -- Single entries of tables, before and after the moves that change them, and as the tests of tables find them.
-use Rattle.std.proofs.Common.{◌≡◌, ℕ, ◌<◌, ◌≤◌, Bool, true, false, List, [], ◌∷◌, ◌++◌, refl, sym, ap, ◌∙◌, subst}
+use Rattle.std.proofs.Common.{◌≡◌, ℕ, ◌+◌, ◌<◌, ◌≤◌, Bool, true, false, List, [], ◌∷◌, ◌++◌, refl, sym, ap, ◌∙◌, subst}
 use Rattle.std.proofs.Common.{◌⊎◌, inl, inr, arith, Option, Some, None}
 use Rattle.std.specs.Prelude.{◌==◌, ◌&&◌, not, nat_lt, max, if◌then◌else◌}
 use Rattle.std.proofs.lemmas.Bool.{eqb-true}
@@ -17,7 +17,10 @@ use Rattle.nat_tables.specs.Reverses.{Reverses, endpoint_of, AreBound}
 use Rattle.nat_tables.proofs.Counting.{same_is, port_is}
 use Rattle.flow_boxes.proofs.Fitting.{same_self}
 use Rattle.nat_box.specs.Sentences.{Has}
-use Rattle.nat_runs.specs.Idle.{IsIdle, IsUsed}
+use Rattle.nat_tables.specs.declared.phase.Phase.{Phase}
+use Rattle.nat_tables.specs.declared.phase.Phase.TheVariants.{Plain, Opening, Established, Closing}
+use Rattle.nat_tables.specs.Phases.{timer}
+use Rattle.nat_runs.specs.Idle.{idle_after, IsIdle, IsUsed}
 
 same_port_self : (k : PortKey) → same_port k k ≡ true
 same_port_self k =
@@ -26,15 +29,29 @@ same_port_self k =
 
 -- Idle mappings
 
+idle_in : (now last protocol : ℕ) (phase : Phase) → not (nat_lt now (last + timer protocol phase)) ≡ true
+    → last + idle_after protocol phase ≤ now
+idle_in now last protocol Plain q = grind (arith, nat_tests)
+idle_in now last protocol (Opening seconds) q = grind (arith, nat_tests)
+idle_in now last protocol Established q = grind (arith, nat_tests)
+idle_in now last protocol (Closing seconds) q = grind (arith, nat_tests)
+
+used_in : (now last protocol : ℕ) (phase : Phase) → not (nat_lt now (last + timer protocol phase)) ≡ false
+    → now < last + idle_after protocol phase
+used_in now last protocol Plain q = grind (arith, nat_tests)
+used_in now last protocol (Opening seconds) q = grind (arith, nat_tests)
+used_in now last protocol Established q = grind (arith, nat_tests)
+used_in now last protocol (Closing seconds) q = grind (arith, nat_tests)
+
 pub idle_is : (now : ℕ) (e : Endpoint × Slot) → is_idle now e ≡ true → IsIdle now e.0 e.1
-idle_is now e q = grind (arith, nat_tests)
+idle_is now e q = idle_in now e.1.last e.0.protocol e.1.phase q
 
 pub used_is : (now : ℕ) (e : Endpoint × Slot) → is_idle now e ≡ false → IsUsed now e.0 e.1
-used_is now e q = grind (arith, nat_tests)
+used_is now e q = used_in now e.1.last e.0.protocol e.1.phase q
 
 -- Entries as they are found
 
-missed : (es : Forwards) (key : Endpoint) (f : Endpoint × Slot) → Misses es key → Has es f
+pub missed : (es : Forwards) (key : Endpoint) (f : Endpoint × Slot) → Misses es key → Has es f
     → same_endpoint f.0 key ≡ false
 missed [] key f m h = absurd h
 missed (y ∷ es) key f m (inl p) = subst (λ (z : Endpoint × Slot). same_endpoint z.0 key ≡ false) p m.0
@@ -50,7 +67,7 @@ slot_in key slot (x ∷ es) e = by (same_endpoint key x.0) refl e (slot_in key s
         let k : x.0 ≡ key = sym (same_is key x.0 q) in let z : x.1 ≡ slot = cc in inl (λ i. (k i, z i))
     by false q e rest = inr (rest e)
 
-slot_there : (May : Endpoint → ℕ → Type 0) (es : Forwards) (key : Endpoint) (slot : Slot) → AreMappings May es
+slot_there : (May : Endpoint → Slot → Type 0) (es : Forwards) (key : Endpoint) (slot : Slot) → AreMappings May es
     → Has es (key, slot) → slot_of key es ≡ Some slot
 slot_there May [] key slot all h = absurd h
 slot_there May (x ∷ es) key slot all (inl p) =
@@ -103,7 +120,7 @@ idle_at key port now slot e p =
 abbrev pub AreIdle : Forwards → Endpoint → ℕ → ℕ → Type 0
 AreIdle es key port now = (slot : Slot) → Has es (key, slot) → slot.port ≡ port → IsIdle now key slot
 
-pub lives_not : (May : Endpoint → ℕ → Type 0) (key : Endpoint) (port now : ℕ) (es : Forwards) → AreMappings May es
+pub lives_not : (May : Endpoint → Slot → Type 0) (key : Endpoint) (port now : ℕ) (es : Forwards) → AreMappings May es
     → lives key port now es ≡ false → AreIdle es key port now
 lives_not May key port now es all e slot h p =
     let there : slot_of key es ≡ Some slot = slot_there May es key slot all h in
@@ -228,10 +245,10 @@ without_idle_was now (x ∷ es) e h = by (is_idle now x) h (without_idle_was now
     by false (inl p) rest = inl p
     by false (inr h) rest = inr (rest h)
 
-pub may_mapping : (May : Endpoint → ℕ → Type 0) (key : Endpoint) (slot : Slot) (es : Forwards) → AreMappings May es
-    → Has es (key, slot) → May key slot.port
+pub may_mapping : (May : Endpoint → Slot → Type 0) (key : Endpoint) (slot : Slot) (es : Forwards) → AreMappings May es
+    → Has es (key, slot) → May key slot
 may_mapping May key slot [] all h = absurd h
-may_mapping May key slot (x ∷ es) all (inl p) = subst (λ (z : Endpoint × Slot). May z.0 z.1.port) p all.0
+may_mapping May key slot (x ∷ es) all (inl p) = subst (λ (z : Endpoint × Slot). May z.0 z.1) p all.0
 may_mapping May key slot (x ∷ es) all (inr h) = may_mapping May key slot es all.2 h
 
 pub in_front : (e : Endpoint × Slot) (es fs : Forwards) → Has es e → Has (es ++ fs) e
@@ -248,7 +265,7 @@ without_first test (e ∷ es) = if test e then es else e ∷ without_first test 
 abbrev IsLeft : (Endpoint × Slot → Bool) → Endpoint × Slot → Forwards → Type 0
 IsLeft test e es = Has es e ⊎ ((test e ≡ true) × ((later : Slot) → Has es (e.0, later) → ⊥))
 
-left_first : (May : Endpoint → ℕ → Type 0) (test : Endpoint × Slot → Bool) (es : Forwards) (e : Endpoint × Slot)
+left_first : (May : Endpoint → Slot → Type 0) (test : Endpoint × Slot → Bool) (es : Forwards) (e : Endpoint × Slot)
     → AreMappings May es → Has es e → IsLeft test e (without_first test es)
 left_first May test [] e all h = absurd h
 left_first May test (x ∷ es) e all h = by (test x) refl h (left_first May test es e all.2)
@@ -291,19 +308,19 @@ without_idle_is now (e ∷ es) = ap (λ (r : Forwards). if is_idle now e then es
 abbrev pub IsLeftOr : Type 0 → Endpoint × Slot → Forwards → Type 0
 IsLeftOr Why e es = Has es e ⊎ (Why × ((later : Slot) → Has es (e.0, later) → ⊥))
 
-pub left_without : (May : Endpoint → ℕ → Type 0) (key : Endpoint) (es : Forwards) (e : Endpoint × Slot)
+pub left_without : (May : Endpoint → Slot → Type 0) (key : Endpoint) (es : Forwards) (e : Endpoint × Slot)
     → AreMappings May es → Has es e → IsLeftOr (same_endpoint key e.0 ≡ true) e (without key es)
 left_without May key es e all h =
     subst (IsLeftOr (same_endpoint key e.0 ≡ true) e) (without_is key es)
     (left_first May (λ (x : Endpoint × Slot). same_endpoint key x.0) es e all h)
 
-pub left_without_idle : (May : Endpoint → ℕ → Type 0) (now : ℕ) (es : Forwards) (e : Endpoint × Slot)
+pub left_without_idle : (May : Endpoint → Slot → Type 0) (now : ℕ) (es : Forwards) (e : Endpoint × Slot)
     → AreMappings May es → Has es e → IsLeftOr (is_idle now e ≡ true) e (without_idle now es)
 left_without_idle May now es e all h =
     subst (IsLeftOr (is_idle now e ≡ true) e) (without_idle_is now es) (left_first May (is_idle now) es e all h)
 
 -- the mapping that is found of its own endpoint
-pub own_slot : (May : Endpoint → ℕ → Type 0) (key : Endpoint) (slot : Slot) (es : Forwards) (e : Endpoint × Slot)
+pub own_slot : (May : Endpoint → Slot → Type 0) (key : Endpoint) (slot : Slot) (es : Forwards) (e : Endpoint × Slot)
     → AreMappings May es → Has es e → slot_of key es ≡ Some slot → same_endpoint key e.0 ≡ true → (key, slot) ≡ e
 own_slot May key slot es e all h found q =
     let k : key ≡ e.0 = same_is key e.0 q in

@@ -1,6 +1,7 @@
 pub mod Classes
 pub mod Met
 pub mod Idle
+pub mod Following
 pub mod Passing
 pub mod Staying
 pub mod Used

@@ -1,6 +1,8 @@
 //! The laws on every run of the box. Each is proved, and does nothing: a caller has it by the call.
 ghost use Rattle.nat_runs.specs.Passing.{EachPasses, NoneVanishes, NoneVanishesAtRest};
 ghost use Rattle.nat_runs.specs.Staying.{MappingsStay};
+ghost use Rattle.nat_runs.specs.Following.{FollowedByTheLine, NoneFollowedWithoutIt};
+ghost use Rattle.nat_runs.specs.Following.{TouchesAsBefore, BeginsAsBefore, HostsFollow};
 ghost use Rattle.nat_runs.specs.Used.{ComesInByUsed};
 ghost use Rattle.nat_runs.specs.Causes.{DropsHaveCauses};
 ghost use Rattle.nat_runs.specs.Inbound.{InboundChangesNoTable};
@@ -17,10 +19,23 @@ pub fn no_packet_vanishes()
 {}
 
 /// At each step each mapping stays, with its port, or it was idle at the time that the packet was told: not used for
-/// 300 s of UDP (RFC 4787, REQ-5), for 7,440 s of TCP (RFC 5382, REQ-5). So an inside endpoint that goes on has the
+/// 300 s of UDP (RFC 4787, REQ-5), for 7,440 s of TCP, or for the box's own number of seconds, of a TCP connection that
+/// is followed and not established, or was ended (RFC 5382, REQ-5). So an inside endpoint that goes on has the
 /// same port toward every remote endpoint (RFC 4787, REQ-1).
 pub fn mappings_stay_until_idle()
     ensures { MappingsStay }
+{}
+
+/// Each mapping whose connection is followed is of TCP, and has the box's number of seconds (`by_the_line`). Where the
+/// box has none, no connection is followed, so each mapping is kept as its protocol says (`none_without_it`); each
+/// touch is that of the table of moves alone (`touches`), and no segment is noted (`begins`). The phase of a mapping
+/// changes by a packet from its own inside endpoint alone, and as the control bits of this packet say (`hosts`).
+pub fn connections_are_followed_by_the_line()
+    ensures by_the_line { FollowedByTheLine }
+    ensures none_without_it { NoneFollowedWithoutIt }
+    ensures touches { TouchesAsBefore }
+    ensures begins { BeginsAsBefore }
+    ensures hosts { HostsFollow }
 {}
 
 /// What goes back inside, of an inbound or a hairpin packet (RFC 4787, REQ-9), goes to an endpoint that has a mapping

@@ -4,6 +4,7 @@
 mod laws;
 
 pub use laws::{
-    drops_have_their_causes, hosts_refresh_their_own_mappings, inbound_packets_change_no_table,
-    mappings_stay_until_idle, no_packet_vanishes, what_comes_in_found_a_used_mapping,
+    connections_are_followed_by_the_line, drops_have_their_causes,
+    hosts_refresh_their_own_mappings, inbound_packets_change_no_table, mappings_stay_until_idle,
+    no_packet_vanishes, what_comes_in_found_a_used_mapping,
 };

@@ -8,9 +8,11 @@ use Rattle.std.proofs.lemmas.Bool.Decides.{nat_tests}
 use Rattle.nat_tables.specs.declared.entries.Endpoint.{Endpoint}
 use Rattle.nat_tables.specs.declared.entries.PortKey.{PortKey}
 use Rattle.nat_tables.specs.declared.slot.Slot.{Slot}
+use Rattle.nat_tables.specs.declared.phase.Segment.{Segment}
 use Rattle.nat_tables.specs.Ports.{chosen, with_port, one_if, count_port}
 use Rattle.nat_tables.specs.Keys.{same_endpoint, same_port}
-use Rattle.nat_tables.specs.Forwards.{Forwards, is_idle, slot_of, refresh, without, first_idle, without_idle, total}
+use Rattle.nat_tables.specs.Forwards.{Forwards, is_idle, slot_of, refresh, mark, without, first_idle, without_idle}
+use Rattle.nat_tables.specs.Forwards.{total}
 use Rattle.nat_tables.specs.Reverses.{Reverses, bind, unbind, total_bound}
 
 and_left : (a b : Bool) → (a && b) ≡ true → a ≡ true
@@ -44,6 +46,16 @@ total_refresh w key now (e ∷ es) = by (same_endpoint key e.0) refl (total_refr
   where
     by : (b : Bool) → same_endpoint key e.0 ≡ b → total w (refresh key now es) ≡ total w es
         → total w (refresh key now (e ∷ es)) ≡ total w (e ∷ es)
+    by true q behind = rw q refl
+    by false q behind = rw q (omega arith)
+
+pub total_marked : (w : Endpoint → ℕ → ℕ) (key : Endpoint) (seconds : ℕ) (segment : Segment) (es : Forwards)
+    → total w (mark key seconds segment es) ≡ total w es
+total_marked w key seconds segment [] = refl
+total_marked w key seconds segment (e ∷ es) = by (same_endpoint key e.0) refl (total_marked w key seconds segment es)
+  where
+    by : (b : Bool) → same_endpoint key e.0 ≡ b → total w (mark key seconds segment es) ≡ total w es
+        → total w (mark key seconds segment (e ∷ es)) ≡ total w (e ∷ es)
     by true q behind = rw q refl
     by false q behind = rw q (omega arith)
 

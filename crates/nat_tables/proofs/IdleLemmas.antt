@@ -2,7 +2,7 @@
 use Rattle.std.proofs.Common.{◌≡◌, ◌==◌, ℕ, zero, suc, ◌+◌, ◌<◌, ◌≤◌, Bool, true, false, List, [], ◌∷◌, ◌++◌, length}
 use Rattle.std.proofs.Common.{set}
 use Rattle.std.proofs.Common.{refl, sym, ap, subst, ◌∙◌, arith, ⊎_elim, Option, Some, None, length-append}
-use Rattle.std.specs.Prelude.{◌≢◌, nat_lt}
+use Rattle.std.specs.Prelude.{◌≢◌, nat_lt, if◌then◌else◌}
 use Rattle.std.specs.List.{sum_by}
 use Rattle.std.proofs.lemmas.Bool.{eqb-true, cases_lt}
 use Rattle.std.proofs.lemmas.Bool.Decides.{nat_tests}
@@ -10,7 +10,9 @@ use Rattle.std.proofs.lemmas.List.{length-set, get_or-set_same, get_or-set_other
 use Rattle.std.proofs.lemmas.List.Sums.{sum_by-set}
 use Rattle.nat_tables.specs.declared.entries.Endpoint.{Endpoint}
 use Rattle.nat_tables.specs.declared.slot.Slot.{Slot}
-use Rattle.nat_tables.specs.Forwards.{timer, refreshed, first_idle, without_idle, slot_of, refresh}
+use Rattle.nat_tables.specs.declared.phase.Segment.{Segment}
+use Rattle.nat_tables.specs.Phases.{timer}
+use Rattle.nat_tables.specs.Forwards.{refreshed, first_idle, without_idle, slot_of, refresh, mark}
 use Rattle.nat_tables.specs.Keys.{same_endpoint}
 use Rattle.nat_tables.specs.Ports.{one_if}
 use Rattle.nat_tables.specs.Rows.{present, row_at}
@@ -71,8 +73,33 @@ busy_used times rows at now own slot busy is =
     (λ inside.
     let old : IsBusyUntil (time_at times at) (Some (own, slot)) = rw is at (busy.each at inside) in omega arith)
 
+-- another mapping and its time in a row
+pub busy_marked : (times : List ℕ) (rows : List Row) (at time : ℕ) (row : Row) → AreBusyUntil times rows
+    → IsBusyUntil time row → AreBusyUntil (set times at time) (set rows at row)
+busy_marked times rows at time row busy new = record {
+  long =
+      let l = busy.long in
+      let s = length-set rows at row in
+      let t = length-set times at time in omega arith;
+  each = λ k less. by k (let s = length-set rows at row in omega arith) (k == at) refl;
+}
+  where
+    by : (k : ℕ) → k < length rows → (b : Bool) → (k == at) ≡ b
+        → IsBusyUntil (time_at (set times at time) k) (row_at (set rows at row) k)
+    by k less true e =
+        let here : at ≡ k = sym (eqb-true _ _ e) in
+        let inside : at < length rows = rw here less in
+        let l = busy.long in
+        let same : time_at (set times at time) at ≡ time = get_or-set_same times at time never (omega arith) in
+        subst (λ (j : ℕ). IsBusyUntil (time_at (set times at time) j) (row_at (set rows at row) j)) here
+        (rw (same, row_set_same rows at row inside) new)
+    by k less false e =
+        let apart : k ≢ at = (λ same. grind (arith, nat_tests)) in
+        rw (get_or-set_other times at k time never apart, row_set_other rows at k row apart) (busy.each k less)
+
 pub busy_pushed : (times : List ℕ) (rows : List Row) (at time : ℕ) (key : Endpoint) (slot : Slot)
-    → AreBusyUntil times rows → length rows < length times → at ≡ length rows → time < slot.last + timer key.protocol
+    → AreBusyUntil times rows → length rows < length times → at ≡ length rows
+    → time < slot.last + timer key.protocol slot.phase
     → AreBusyUntil (set times at time) (rows ++ Some (key, slot) ∷ [])
 busy_pushed times rows at time key slot busy room last later = record {
   long = let s = length-set times at time in let l = length-append rows (Some (key, slot) ∷ []) in omega arith;
@@ -102,7 +129,7 @@ busy_none = record { long = omega arith; each = λ at less. absurd (omega arith)
 not_idle : (now time : ℕ) (row : Row) → IsBusyUntil time row → now ≤ time → row_is_idle now row ≡ false
 not_idle now time None busy from = refl
 not_idle now time (Some e) busy from =
-    let later : nat_lt now (e.1.last + timer e.0.protocol) ≡ true = grind (arith, nat_tests) in rw later refl
+    let later : nat_lt now (e.1.last + timer e.0.protocol e.1.phase) ≡ true = grind (arith, nat_tests) in rw later refl
 
 row_past : (rows : List Row) (at : ℕ) → length rows ≤ at → row_at rows at ≡ None
 row_past [] at past = refl
@@ -176,7 +203,19 @@ fewer_before now times at time first later =
     let new : nat_lt time now ≡ false = grind (arith, nat_tests) in
     let less = rw (old, new) at sums in omega arith
 
--- a mapping that is not there is not refreshed
+-- a mapping that is not there is not marked, and not refreshed
+
+pub unmarked : (key : Endpoint) (seconds : ℕ) (segment : Segment) (es : List (Endpoint × Slot)) → slot_of key es ≡ None
+    → es ≡ mark key seconds segment es
+unmarked key seconds segment [] none = refl
+unmarked key seconds segment (e ∷ es) none = by (same_endpoint key e.0) refl none (unmarked key seconds segment es)
+  where
+    by : (b : Bool) → same_endpoint key e.0 ≡ b → (if b then Some e.1 else slot_of key es) ≡ None
+        → (slot_of key es ≡ None → es ≡ mark key seconds segment es)
+        → e ∷ es ≡ mark key seconds segment (e ∷ es)
+    by true q is behind = absurd (cc)
+    by false q is behind = rw q (ap (λ rest. e ∷ rest) (behind is))
+
 pub unused : (key : Endpoint) (now : ℕ) (es : List (Endpoint × Slot)) → slot_of key es ≡ None → es ≡ refresh key now es
 unused key now [] none = refl
 unused key now (e ∷ es) none = by (same_endpoint key e.0) refl (unused key now es)

@@ -4,20 +4,21 @@ use Rattle.std.specs.Prelude.{if◌then◌else◌}
 use Rattle.nat_tables.specs.declared.entries.Endpoint.{Endpoint}
 use Rattle.nat_tables.specs.declared.entries.PortKey.{PortKey}
 use Rattle.nat_tables.specs.declared.slot.Slot.{Slot}
+use Rattle.nat_tables.specs.declared.phase.Segment.{Segment}
 use Rattle.nat_tables.specs.Keys.{same_endpoint, same_port}
 use Rattle.nat_tables.specs.Forwards.{Forwards, is_idle, slot_of, refresh, without, first_idle, without_idle, Misses}
-use Rattle.nat_tables.specs.Forwards.{AreMappings}
+use Rattle.nat_tables.specs.Forwards.{AreMappings, refreshed, marked, mark}
 use Rattle.nat_tables.specs.Reverses.{Reverses, bind, unbind, IsUnbound, AreBound}
 use Rattle.nat_tables.proofs.Counting.{same_is, port_is}
 
-module _ (May : Endpoint → ℕ → Type 0) where
+module _ (May : Endpoint → Slot → Type 0) where
   pub may_slot : (key : Endpoint) (slot : Slot) (es : Forwards) → slot_of key es ≡ Some slot → AreMappings May es
-      → May key slot.port
+      → May key slot
   may_slot key slot [] is all = absurd (cc)
   may_slot key slot (e ∷ es) is all = by (same_endpoint key e.0) refl is (λ h. may_slot key slot es h all.2)
     where
       by : (b : Bool) → same_endpoint key e.0 ≡ b → (if b then Some e.1 else slot_of key es) ≡ Some slot
-          → (slot_of key es ≡ Some slot → May key slot.port) → May key slot.port
+          → (slot_of key es ≡ Some slot → May key slot) → May key slot
       by true q is behind =
           let k : key ≡ e.0 = same_is key e.0 q in
           let s : e.1 ≡ slot = cc in
@@ -25,12 +26,12 @@ module _ (May : Endpoint → ℕ → Type 0) where
       by false q is behind = behind is
 
   pub may_idle : (now : ℕ) (idle : Endpoint × Slot) (es : Forwards) → first_idle now es ≡ Some idle → AreMappings May es
-      → May idle.0 idle.1.port
+      → May idle.0 idle.1
   may_idle now idle [] is all = absurd (cc)
   may_idle now idle (e ∷ es) is all = by (is_idle now e) is (λ h. may_idle now idle es h all.2)
     where
       by : (b : Bool) → (if b then Some e else first_idle now es) ≡ Some idle
-          → (first_idle now es ≡ Some idle → May idle.0 idle.1.port) → May idle.0 idle.1.port
+          → (first_idle now es ≡ Some idle → May idle.0 idle.1) → May idle.0 idle.1
       by true is behind = let s : e ≡ idle = cc in rw (sym s) all.0
       by false is behind = behind is
 
@@ -45,15 +46,49 @@ module _ (May : Endpoint → ℕ → Type 0) where
       by true q behind = rw q old
       by false q behind = rw q (old.0, behind)
 
-  pub keeps_refreshed : (key : Endpoint) (now : ℕ) (es : Forwards) → AreMappings May es
+  pub keeps_refreshed : (key : Endpoint) (now : ℕ) (es : Forwards)
+      → ((slot : Slot) → May key slot → May key (refreshed now slot)) → AreMappings May es
       → AreMappings May (refresh key now es)
-  keeps_refreshed key now [] all = tt
-  keeps_refreshed key now (e ∷ es) all = by (same_endpoint key e.0) refl (keeps_refreshed key now es all.2)
+  keeps_refreshed key now [] may all = tt
+  keeps_refreshed key now (e ∷ es) may all = by (same_endpoint key e.0) refl (keeps_refreshed key now es may all.2)
     where
       by : (b : Bool) → same_endpoint key e.0 ≡ b → (AreMappings May (refresh key now es))
           → AreMappings May (refresh key now (e ∷ es))
-      by true q behind = rw q all
+      by true q behind =
+          let k : key ≡ e.0 = same_is key e.0 q in
+          let here : May e.0 (refreshed now e.1) =
+          subst (λ (x : Endpoint). May x (refreshed now e.1)) k
+          (may e.1 (subst (λ (x : Endpoint). May x e.1) (sym k) all.0)) in
+          rw q (here, all.1, all.2)
       by false q behind = rw q (all.0, misses_refreshed key e.0 now es all.1, behind)
+
+  misses_marked : (key other : Endpoint) (seconds : ℕ) (segment : Segment) (es : Forwards) → Misses es other
+      → Misses (mark key seconds segment es) other
+  misses_marked key other seconds segment [] old = tt
+  misses_marked key other seconds segment (e ∷ es) old =
+      by (same_endpoint key e.0) refl (misses_marked key other seconds segment es old.1)
+    where
+      by : (b : Bool) → same_endpoint key e.0 ≡ b → (Misses (mark key seconds segment es) other)
+          → Misses (mark key seconds segment (e ∷ es)) other
+      by true q behind = rw q old
+      by false q behind = rw q (old.0, behind)
+
+  pub keeps_marked : (key : Endpoint) (seconds : ℕ) (segment : Segment) (es : Forwards)
+      → ((slot : Slot) → May key slot → May key (marked seconds segment slot)) → AreMappings May es
+      → AreMappings May (mark key seconds segment es)
+  keeps_marked key seconds segment [] may all = tt
+  keeps_marked key seconds segment (e ∷ es) may all =
+      by (same_endpoint key e.0) refl (keeps_marked key seconds segment es may all.2)
+    where
+      by : (b : Bool) → same_endpoint key e.0 ≡ b → (AreMappings May (mark key seconds segment es))
+          → AreMappings May (mark key seconds segment (e ∷ es))
+      by true q behind =
+          let k : key ≡ e.0 = same_is key e.0 q in
+          let here : May e.0 (marked seconds segment e.1) =
+          subst (λ (x : Endpoint). May x (marked seconds segment e.1)) k
+          (may e.1 (subst (λ (x : Endpoint). May x e.1) (sym k) all.0)) in
+          rw q (here, all.1, all.2)
+      by false q behind = rw q (all.0, misses_marked key e.0 seconds segment es all.1, behind)
 
   misses_without : (key other : Endpoint) (es : Forwards) → Misses es other → Misses (without key es) other
   misses_without key other [] old = tt
@@ -105,7 +140,7 @@ module _ (May : Endpoint → ℕ → Type 0) where
   misses_more key other slot [] old new = (new, tt)
   misses_more key other slot (e ∷ es) old new = (old.0, misses_more key other slot es old.1 new)
 
-  pub keeps_bound : (key : Endpoint) (slot : Slot) (es : Forwards) → slot_of key es ≡ None → May key slot.port
+  pub keeps_bound : (key : Endpoint) (slot : Slot) (es : Forwards) → slot_of key es ≡ None → May key slot
       → AreMappings May es → AreMappings May (es ++ (key, slot) ∷ [])
   keeps_bound key slot [] is may all = (may, tt, tt)
   keeps_bound key slot (e ∷ es) is may all =

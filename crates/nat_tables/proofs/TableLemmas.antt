@@ -1,5 +1,5 @@
 -- Look-ups, insertions and removals of an indexed map are those of the tables.
-use Rattle.std.proofs.Common.{◌≡◌, ◌==◌, ◌&&◌, ℕ, Bool, true, false, [], ◌∷◌, ◌++◌, refl, ap, ◌∙◌, Some, None}
+use Rattle.std.proofs.Common.{◌≡◌, ◌==◌, ◌&&◌, ℕ, Bool, true, false, [], ◌∷◌, ◌++◌, refl, sym, ap, ◌∙◌, Some, None}
 use Rattle.std.specs.Prelude.{if◌then◌else◌}
 use Rattle.std.specs.Map.{lookup}
 use Rattle.indexmap.specs.IndexMap.{insert_entry, shift_remove_entry}
@@ -7,8 +7,10 @@ use Rattle.nat_tables.specs.declared.entries.Endpoint.{Endpoint}
 use Rattle.nat_tables.specs.declared.entries.PortKey.{PortKey}
 use Rattle.nat_tables.specs.Keys.{same_port, same_endpoint}
 use Rattle.nat_tables.specs.declared.slot.Slot.{Slot}
-use Rattle.nat_tables.specs.Forwards.{Forwards, slot_of, refreshed, refresh, without}
+use Rattle.nat_tables.specs.declared.phase.Segment.{Segment}
+use Rattle.nat_tables.specs.Forwards.{Forwards, slot_of, refreshed, refresh, marked, mark, without}
 use Rattle.nat_tables.specs.Reverses.{Reverses, endpoint_of, bind, unbind}
+use Rattle.nat_tables.proofs.Counting.{same_is}
 
 pub looked_up : (port : PortKey) (bs : Reverses) → lookup (same_port port) bs ≡ endpoint_of port bs
 looked_up port [] = refl
@@ -64,6 +66,19 @@ used key now slot (e ∷ es) is = by (same_endpoint key e.0) refl is (used key n
     by true q is behind = let s : slot ≡ e.1 = cc in rw (q, s) refl
     by false q is behind = rw q (ap (λ rest. e ∷ rest) (behind is))
 
+noted : (key : Endpoint) (seconds : ℕ) (segment : Segment) (slot : Slot) (es : Forwards) → slot_of key es ≡ Some slot
+    → insert_entry same_endpoint es key (marked seconds segment slot) ≡ mark key seconds segment es
+noted key seconds segment slot [] is = absurd (cc)
+noted key seconds segment slot (e ∷ es) is =
+    by (same_endpoint key e.0) refl is (noted key seconds segment slot es)
+  where
+    by : (t : Bool) → same_endpoint key e.0 ≡ t → (if t then Some e.1 else slot_of key es) ≡ Some slot
+        → (slot_of key es ≡ Some slot
+        → insert_entry same_endpoint es key (marked seconds segment slot) ≡ mark key seconds segment es)
+        → insert_entry same_endpoint (e ∷ es) key (marked seconds segment slot) ≡ mark key seconds segment (e ∷ es)
+    by true q is behind = let s : slot ≡ e.1 = cc in rw (q, s) refl
+    by false q is behind = rw q (ap (λ rest. e ∷ rest) (behind is))
+
 appended : (key : Endpoint) (slot : Slot) (es : Forwards) → slot_of key es ≡ None
     → insert_entry same_endpoint es key slot ≡ es ++ (key, slot) ∷ []
 appended key slot [] is = refl
@@ -90,12 +105,21 @@ module _ (eq : Endpoint → Endpoint → Bool) (derived : (a b : Endpoint)
   eqs : eq ≡ same_endpoint
   eqs = λ i a b. (derived a b ∙ and_grouped (a.protocol == b.protocol) (a.address == b.address) (a.port == b.port)) i
 
+  pub same_by : (a b : Endpoint) → eq a b ≡ true → a ≡ b
+  same_by a b e = same_is a b (sym (ap (λ (test : Endpoint → Endpoint → Bool). test a b) eqs) ∙ e)
+
   pub slot_found_by : (key : Endpoint) (es : Forwards) → lookup (eq key) es ≡ slot_of key es
   slot_found_by key es = ap (λ test. lookup (test key) es) eqs ∙ slot_found key es
 
   pub used_by : (key : Endpoint) (now : ℕ) (slot : Slot) (es : Forwards) → slot_of key es ≡ Some slot
       → insert_entry eq es key (refreshed now slot) ≡ refresh key now es
   used_by key now slot es is = ap (λ test. insert_entry test es key (refreshed now slot)) eqs ∙ used key now slot es is
+
+  pub noted_by : (key : Endpoint) (seconds : ℕ) (segment : Segment) (slot : Slot) (es : Forwards)
+      → slot_of key es ≡ Some slot
+      → insert_entry eq es key (marked seconds segment slot) ≡ mark key seconds segment es
+  noted_by key seconds segment slot es is =
+      ap (λ test. insert_entry test es key (marked seconds segment slot)) eqs ∙ noted key seconds segment slot es is
 
   pub appended_by : (key : Endpoint) (slot : Slot) (es : Forwards) → slot_of key es ≡ None
       → insert_entry eq es key slot ≡ es ++ (key, slot) ∷ []

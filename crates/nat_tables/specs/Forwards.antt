@@ -10,21 +10,19 @@ use Rattle.nat_tables.specs.declared.entries.Find.TheVariants.{Live, Absent}
 use Rattle.nat_tables.specs.declared.entries.Bind.{Bind}
 use Rattle.nat_tables.specs.declared.entries.Bind.TheVariants.{Bound, Other}
 use Rattle.nat_tables.specs.declared.entries.Mapping.{Mapping}
+use Rattle.nat_tables.specs.declared.phase.Phase.TheVariants.{Plain}
+use Rattle.nat_tables.specs.declared.phase.Segment.{Segment}
 use Rattle.nat_tables.specs.Keys.{same_endpoint, port_key}
+use Rattle.nat_tables.specs.Phases.{timer, phase_after}
 
 abbrev pub Forwards : Type 0
 Forwards = List (Endpoint × Slot)
 
--- after how many microseconds without use a mapping is idle: 7,440 s for TCP (RFC 5382, REQ-5), 300 s for UDP (RFC
--- 4787, REQ-5)
-abbrev pub timer : ℕ → ℕ
-timer protocol = if protocol == 6 then 7440000000 else 300000000
-
 abbrev pub is_idle : ℕ → Endpoint × Slot → Bool
-is_idle now e = not (nat_lt now (e.1.last + timer e.0.protocol))
+is_idle now e = not (nat_lt now (e.1.last + timer e.0.protocol e.1.phase))
 
 abbrev pub refreshed : ℕ → Slot → Slot
-refreshed now slot = record { port = slot.port; last = max slot.last now }
+refreshed now slot = record { port = slot.port; last = max slot.last now; phase = slot.phase }
 
 -- the outside port of a mapping
 abbrev pub port_of : Endpoint × Slot → PortKey
@@ -38,6 +36,18 @@ slot_of key (e ∷ es) = if same_endpoint key e.0 then Some e.1 else slot_of key
 abbrev pub refresh : Endpoint → ℕ → Forwards → Forwards
 refresh key now [] = []
 refresh key now (e ∷ es) = if same_endpoint key e.0 then (e.0, refreshed now e.1) ∷ es else e ∷ refresh key now es
+
+-- a slot, and the mapping of an endpoint, after a segment of this kind; a connection that is not established is kept
+-- for so many seconds
+
+abbrev pub marked : ℕ → Segment → Slot → Slot
+marked seconds segment slot =
+    record { port = slot.port; last = slot.last; phase = phase_after seconds segment slot.phase }
+
+abbrev pub mark : Endpoint → ℕ → Segment → Forwards → Forwards
+mark key seconds segment [] = []
+mark key seconds segment (e ∷ es) =
+    if same_endpoint key e.0 then (e.0, marked seconds segment e.1) ∷ es else e ∷ mark key seconds segment es
 
 -- a removal closes up
 abbrev pub without : Endpoint → Forwards → Forwards
@@ -75,7 +85,7 @@ find key now es = found key now es (slot_of key es) (first_idle now es)
 
 abbrev pub bound : Endpoint → ℕ → ℕ → Forwards → Option Slot → Bind × Forwards
 bound key port now es (Some slot) = (Other slot.port, refresh key now es)
-bound key port now es None = (Bound, es ++ (key, record { port = port; last = now }) ∷ [])
+bound key port now es None = (Bound, es ++ (key, record { port = port; last = now; phase = Plain }) ∷ [])
 
 -- A mapping that is there, idle or not, is refreshed and stays. Else the key is mapped to this port, and stands last.
 abbrev pub find_or_bind : Endpoint → ℕ → ℕ → Forwards → Bind × Forwards
@@ -108,6 +118,6 @@ abbrev pub Misses : Forwards → Endpoint → Type 0
 Misses [] key = Unit {0}
 Misses (e ∷ es) key = (same_endpoint e.0 key ≡ false) × Misses es key
 
-abbrev pub AreMappings : (Endpoint → ℕ → Type 0) → Forwards → Type 0
+abbrev pub AreMappings : (Endpoint → Slot → Type 0) → Forwards → Type 0
 AreMappings May [] = Unit {0}
-AreMappings May (e ∷ es) = May e.0 e.1.port × Misses es e.0 × AreMappings May es
+AreMappings May (e ∷ es) = May e.0 e.1 × Misses es e.0 × AreMappings May es

@@ -1,5 +1,6 @@
 pub mod Ports
 pub mod Keys
+pub mod Phases
 pub mod Forwards
 pub mod Reverses
 pub mod Shown

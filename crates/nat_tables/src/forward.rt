@@ -1,7 +1,8 @@
 ghost use Rattle.std.specs.Prelude.{◌≡◌, [], ◌∷◌, ◌++◌, Some, None, IfOk, OnOk, OnErr, MatchOption};
 ghost use Rattle.std.specs.Prelude.{ℕ, ◌+◌, ◌^◌, ◌<◌, ◌≤◌, false, length};
+ghost use Rattle.nat_tables.specs.Phases.{timer};
 ghost use Rattle.nat_tables.specs.Forwards.{slot_of, find, idle_removed, find_or_bind, refresh};
-ghost use Rattle.nat_tables.specs.Forwards.{without, lives, mapping_at, first_idle, is_idle, timer};
+ghost use Rattle.nat_tables.specs.Forwards.{without, lives, mapping_at, first_idle, is_idle, mark};
 ghost use Rattle.nat_tables.specs.Rows.{present, row_at};
 ghost use Rattle.nat_tables.specs.Idling.{AreBusyUntil, IsFirstIdle, NoneIsIdle, row_is_idle};
 ghost use Rattle.nat_tables.specs.Idling.{IsBusyUntil};
@@ -10,7 +11,7 @@ ghost use Rattle.nat_tables.specs.Shown.{mappings_text};
 use crate::first_seen::FirstSeen;
 use crate::showing::text_of_mapping;
 use crate::times::Times;
-use crate::{Bind, Endpoint, Find, Freed, Mapping, Slot};
+use crate::{Bind, Endpoint, Find, Freed, Mapping, Phase, Segment, Slot};
 use plain_text::{NoMemory, Text};
 use std::alloc::Global;
 use std::marker::Model;
@@ -21,7 +22,7 @@ use std::marker::Model;
 pub struct Forward {
     slots: FirstSeen<Endpoint, Slot>,
     /// For each row a time up to which its mapping is not idle. A use makes it later, which is noted only when an idle
-    /// mapping is looked for.
+    /// mapping is looked for. A segment may make it earlier, which is noted at once.
     busy_until: Times,
     alloc: Global,
 }
@@ -160,6 +161,18 @@ impl Forward {
         }
     }
 
+    /// Notes a segment from an endpoint in its mapping, if there is one. A connection that is not established is kept
+    /// for so many seconds.
+    pub fn mark(&mut self, key: &Endpoint, seconds: u32, segment: Segment)
+        ensures { self.new ≡ mark key.now seconds segment self.old }
+    {
+        if let Some((at, slot)) = self.slots.find(key) {
+            let marked = slot.marked(seconds, segment);
+            self.slots.put(at, marked);
+            self.busy_until.set(at, marked.busy_until(key));
+        }
+    }
+
     /// Maps an endpoint that has no mapping; it stands last.
     fn append(&mut self, key: &Endpoint, slot: Slot) -> Result<(), NoMemory>
         requires { slot_of key.now self.old ≡ None }
@@ -218,7 +231,12 @@ impl Forward {
             self.refresh(key, now);
             return Ok(Bind::Other(slot.port));
         }
-        self.append(key, Slot { port, last: now })?;
+        let slot = Slot {
+            port,
+            last: now,
+            phase: Phase::Plain,
+        };
+        self.append(key, slot)?;
         Ok(Bind::Bound)
     }
 

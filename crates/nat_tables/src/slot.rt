@@ -1,7 +1,8 @@
 ghost use Rattle.std.specs.Prelude.{◌≡◌, ℕ, ◌+◌, ◌^◌, ◌<◌, ◌≤◌, false};
-ghost use Rattle.nat_tables.specs.Forwards.{timer, is_idle, refreshed};
+ghost use Rattle.nat_tables.specs.Phases.{protocol_timer, timer, phase_after};
+ghost use Rattle.nat_tables.specs.Forwards.{is_idle, refreshed, marked};
 
-use crate::Endpoint;
+use crate::{Endpoint, Phase, Segment};
 
 /// Idle TCP mappings are kept for 2 hours and 4 minutes (RFC 5382, REQ-5), in microseconds.
 const TCP_TIMER: u64 = 7_440_000_000;
@@ -9,11 +10,49 @@ const TCP_TIMER: u64 = 7_440_000_000;
 /// Idle UDP mappings are kept for 5 minutes (RFC 4787, REQ-5), in microseconds.
 const UDP_TIMER: u64 = 300_000_000;
 
+/// Microseconds of a second.
+const SECOND: u64 = 1_000_000;
+
 /// After how many microseconds without use a mapping of a protocol is idle.
-fn timer(protocol: u8) -> u64
-    ensures { result ≡ timer protocol }
+fn protocol_timer(protocol: u8) -> u64
+    ensures timer { result ≡ protocol_timer protocol }
+    ensures some { 1 ≤ result }
 {
     if protocol == 6 { TCP_TIMER } else { UDP_TIMER }
+}
+
+impl Phase {
+    /// After how many microseconds without use a mapping of a protocol is idle in this phase.
+    fn timer(self, protocol: u8) -> u64
+        ensures timer { result ≡ timer protocol self }
+        ensures some { 1 ≤ result }
+    {
+        match self {
+            Phase::Plain | Phase::Established => protocol_timer(protocol),
+            Phase::Opening(seconds) | Phase::Closing(seconds) => {
+                u64::from(seconds.max(1)) * SECOND
+            }
+        }
+    }
+
+    /// The phase after a segment, where a connection that is not established is kept for so many seconds.
+    fn after(self, seconds: u32, segment: Segment) -> Phase
+        ensures { result ≡ phase_after seconds segment self }
+    {
+        match segment {
+            Segment::Opens => Phase::Opening(seconds),
+            Segment::Closes => Phase::Closing(seconds),
+            Segment::Silent => match self {
+                Phase::Plain | Phase::Opening(_) => Phase::Opening(seconds),
+                Phase::Established => Phase::Established,
+                Phase::Closing(_) => Phase::Closing(seconds),
+            },
+            Segment::Carries => match self {
+                Phase::Closing(_) => Phase::Closing(seconds),
+                Phase::Plain | Phase::Opening(_) | Phase::Established => Phase::Established,
+            },
+        }
+    }
 }
 
 /// What an inside endpoint is mapped to.
@@ -23,24 +62,26 @@ pub struct Slot {
     pub port: u16,
     /// When the mapping was last used, in microseconds.
     pub last: u64,
+    /// How far its connection has come; `Plain` where none is followed.
+    pub phase: Phase,
 }
 
 impl Slot {
-    /// Whether this mapping of the endpoint is idle: it was not used for the timer of its protocol. It is not idle
-    /// before its last use.
+    /// Whether this mapping of the endpoint is idle: it was not used for the timer of its protocol and phase. It is not
+    /// idle before its last use.
     pub(crate) fn is_idle(&self, key: &Endpoint, now: u64) -> bool
         ensures { result ≡ is_idle now (key.now, self.now) }
     {
-        now >= self.last && now - self.last >= timer(key.protocol)
+        now >= self.last && now - self.last >= self.phase.timer(key.protocol)
     }
 
     /// The last time at which this mapping of the endpoint is not idle, of those that there are.
     pub(crate) fn busy_until(&self, key: &Endpoint) -> u64
-        ensures busy { result < self.now.last + timer key.now.protocol }
+        ensures busy { result < self.now.last + timer key.now.protocol self.now.phase }
         ensures last { (now : ℕ) → now < 2 ^ 64 → is_idle now (key.now, self.now) ≡ false
             → now ≤ result }
     {
-        self.last.saturating_add(timer(key.protocol) - 1)
+        self.last.saturating_add(self.phase.timer(key.protocol) - 1)
     }
 
     /// The mapping after a use. Its last use does not go back where time does.
@@ -50,6 +91,18 @@ impl Slot {
         Slot {
             port: self.port,
             last: self.last.max(now),
+            phase: self.phase,
+        }
+    }
+
+    /// The mapping after a segment of its connection.
+    pub(crate) fn marked(&self, seconds: u32, segment: Segment) -> Slot
+        ensures { result ≡ marked seconds segment self.now }
+    {
+        Slot {
+            port: self.port,
+            last: self.last,
+            phase: self.phase.after(seconds, segment),
         }
     }
 }

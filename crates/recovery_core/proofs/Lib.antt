@@ -3,3 +3,4 @@ pub mod RepliesLemmas
 pub mod FinishLemmas
 pub mod LackingLemmas
 pub mod PartingLemmas
+pub mod WaitingLemmas

@@ -262,6 +262,15 @@ impl<P: Program> System<P> {
         self.core.left.len() as u64
     }
 
+    /// How many outputs arrived and wait for a missing log entry.
+    pub fn waiting(&self) -> u64
+        ensures { (s : Setting P.Value) (w : World P.Value)
+            → StandsFor (P.meaning self.now.parts.program) s w self.now.parts
+            → result ≡ length w.waiting }
+    {
+        self.core.logger.waiting() as u64
+    }
+
     /// How many inputs a thread took, entries it logged and outputs it sent out.
     pub fn counts(&self, thread: u32) -> Counts
         requires { thread < self.now.parts.inputs.threads }

@@ -1,12 +1,14 @@
 -- Pieces of a picture, one behind another.
 use Rattle.std.proofs.Common.{◌≡◌, ℕ, suc, ◌+◌, ◌-◌, ◌<◌, List, [], ◌∷◌, ◌++◌, sym, ap, ◌∙◌, subst, append_assoc, arith}
-use Rattle.std.proofs.Common.{drop, get_or, length}
-use Rattle.std.proofs.lemmas.List.{drop_more}
-use Rattle.std.specs.Prelude.{codes, decimal}
+use Rattle.std.proofs.Common.{drop, get_or, length, take, zero}
+use Rattle.std.proofs.lemmas.List.{drop_min, drop_more, take_min, take_rest}
+use Rattle.std.specs.Prelude.{codes, decimal, min}
 use Rattle.svg_text.specs.declared.drawing.Element.{Element}
 use Rattle.run_drawing.specs.declared.note.Note.{Note}
 use Rattle.run_drawing.specs.Picture.{Drawn, after_note, event_elements, events_from, full_mark, lane_elements}
 use Rattle.run_drawing.specs.Picture.{number_note, releases_from, thread_lanes}
+use Rattle.run_drawing.specs.declared.samples.Slice.{Slice}
+use Rattle.run_drawing.specs.Slices.{floor_elements, floors_from, most_in, most_moves, slice_of, slices_from, slices_of}
 
 -- one piece more of those that are left
 pub behind : (out new whole piece rest : List Element) → out ++ (piece ++ rest) ≡ whole → new ≡ out ++ piece
@@ -18,6 +20,16 @@ pub two_put : (out mid new : List Element) (a b : Element) → mid ≡ out ++ a 
     → new ≡ out ++ a ∷ b ∷ []
 two_put out mid new a b first second =
     second ∙ ap (λ (l : List Element). l ++ b ∷ []) first ∙ append_assoc out (a ∷ []) (b ∷ [])
+
+-- two or three pieces one after another
+pub pieces_put : (out mid new a b : List Element) → mid ≡ out ++ a → new ≡ mid ++ b → new ≡ out ++ (a ++ b)
+pieces_put out mid new a b first second =
+    second ∙ ap (λ (l : List Element). l ++ b) first ∙ append_assoc out a b
+
+pub three_put : (out one two new a b c : List Element) → one ≡ out ++ a → two ≡ one ++ b → new ≡ two ++ c
+    → new ≡ out ++ (a ++ b ++ c)
+three_put out one two new a b c first second third =
+    pieces_put out two new (a ++ b) c (pieces_put out one two a b first second) third
 
 pub lanes_next : (many t n : ℕ) (out new whole : List Element) → t < n
     → out ++ thread_lanes many t (n - t) ≡ whole
@@ -59,3 +71,44 @@ events_next threads notes i note d next out new whole less is so_far put after =
     (behind out new whole (event_elements threads d note (drop (i + 1) notes))
     (events_from threads (after_note d note) (drop (i + 1) notes))
     (subst (λ (l : List Note). out ++ events_from threads d l ≡ whole) there so_far) put)
+
+-- one thread more of an overview
+pub floors_next : (most t n : ℕ) (notes : List Note) (out new whole : List Element) → t < n
+    → out ++ floors_from most t (n - t) notes ≡ whole → new ≡ out ++ floor_elements most t notes
+    → new ++ floors_from most (t + 1) (n - (t + 1)) notes ≡ whole
+floors_next most t n notes out new whole less so_far is =
+    let left : n - t ≡ suc (n - (t + 1)) = omega arith in
+    behind out new whole (floor_elements most t notes) (floors_from most (t + 1) (n - (t + 1)) notes)
+    (subst (λ (k : ℕ). out ++ floors_from most t k notes ≡ whole) left so_far) is
+
+pub most_next : (most new t n : ℕ) (notes : List Note) (slices slice : List Slice) (all : ℕ) → t < n
+    → most_moves most t (n - t) notes ≡ all → slices ≡ slices_of t notes → slice ≡ slices
+    → new ≡ most_in most slice → most_moves new (t + 1) (n - (t + 1)) notes ≡ all
+most_next most new t n notes slices slice all less so_far are same is =
+    let left : n - t ≡ suc (n - (t + 1)) = omega arith in
+    let now : new ≡ most_in most (slices_of t notes) = is ∙ ap (most_in most) (same ∙ are) in
+    subst (λ (m : ℕ). most_moves m (t + 1) (n - (t + 1)) notes ≡ all) (sym now)
+    (subst (λ (k : ℕ). most_moves most t k notes ≡ all) left so_far)
+
+-- one slice more
+pub slices_next : (t every left first next many : ℕ) (rest : List Note) (slice : Slice) (out new whole : List Slice)
+    → 0 < left → 0 < length rest → many ≡ min every (length rest) → out ++ slices_from t every left first rest ≡ whole
+    → slice ≡ slice_of t first (take many rest) → next ≡ first + every → new ≡ out ++ slice ∷ []
+    → new ++ slices_from t every (left - 1) next (take (length rest - many) (drop many rest)) ≡ whole
+slices_next t every zero first next many rest slice out new whole low some fits so_far is on put =
+    absurd (omega (arith, low))
+slices_next t every (suc left) first next many [] slice out new whole low some fits so_far is on put =
+    absurd (omega (arith, some))
+slices_next t every (suc left) first next many (n ∷ notes) slice out new whole low some fits so_far is on put =
+    let rest : List Note = n ∷ notes in
+    let less : suc left - 1 ≡ left = omega arith in
+    let one : take many rest ≡ take every rest = ap (λ (k : ℕ). take k rest) fits ∙ take_min every rest in
+    let others : take (length rest - many) (drop many rest) ≡ drop every rest =
+    take_rest rest many ∙ (ap (λ (k : ℕ). drop k rest) fits ∙ drop_min every rest) in
+    let more : List Slice = slices_from t every left (first + every) (drop every rest) in
+    subst (λ (k : ℕ). new ++ slices_from t every k next (take (length rest - many) (drop many rest)) ≡ whole) (sym less)
+    (subst (λ (k : ℕ). new ++ slices_from t every left k (take (length rest - many) (drop many rest)) ≡ whole) (sym on)
+    (subst (λ (l : List Note). new ++ slices_from t every left (first + every) l ≡ whole) (sym others)
+    (ap (λ (l : List Slice). l ++ more)
+    (put ∙ ap (λ (x : Slice). out ++ x ∷ []) (is ∙ ap (λ (l : List Note). slice_of t first l) one))
+    ∙ (append_assoc out (slice_of t first (take every rest) ∷ []) more ∙ so_far))))

@@ -4,4 +4,6 @@ pub mod Overview
 pub mod Picture
 pub mod Places
 pub mod Promises
+pub mod Scales
+pub mod Slices
 pub mod Standing

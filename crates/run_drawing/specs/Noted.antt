@@ -1,5 +1,6 @@
 -- The notes of a run: one behind each event, of what the event came to and of the world behind it.
-use Rattle.std.specs.Prelude.{ℕ, ◌-◌, nat_le, if◌then◌else◌, List, [], ◌∷◌, ◌++◌, drop, length}
+use Rattle.std.specs.Prelude.{ℕ, ◌-◌, nat_le, if◌then◌else◌, List, [], ◌∷◌, ◌++◌, drop, length, take}
+use Rattle.plain_machine.specs.History.{Step}
 use Rattle.recovery_world.specs.declared.event.Event.{Event}
 use Rattle.recovery_world.specs.declared.event.Outcome.{Outcome}
 use Rattle.recovery_world.specs.declared.event.Outcome.TheVariants as outcome
@@ -30,6 +31,15 @@ kept_behind to new = length new.past - moves_by to
 abbrev pub made_behind : {V : Type 0} → Outcome → SystemWorld V → List Made
 made_behind to new = if nat_le (length new.past) 400 then drop (kept_behind to new) (made_in new.past) else []
 
+-- who made the moves of a history, the oldest first
+abbrev pub movers_in : {V : Type 0} → List (Step V) → List ℕ
+movers_in [] = []
+movers_in (x ∷ earlier) = movers_in earlier ++ x.thread ∷ []
+
+-- and who made the new ones, however many there are
+abbrev pub movers_behind : {V : Type 0} → Outcome → SystemWorld V → List ℕ
+movers_behind to new = drop (kept_behind to new) (movers_in new.past)
+
 abbrev pub note_of : {V : Type 0} → Event → Outcome → List Sent → SystemWorld V → Note
 note_of ev to freed new = record {
   event = ev;
@@ -37,9 +47,11 @@ note_of ev to freed new = record {
   line = reply_line ev to freed;
   kept = kept_behind to new;
   made = made_behind to new;
+  movers = movers_behind to new;
   moves = length new.past;
   fed = new.fed;
   released = length new.released;
+  waiting = length new.waiting;
   up = new.up;
   epoch = new.epoch;
 }
@@ -50,3 +62,14 @@ pub data Noted {V : Type 0} (s : Setting V) : List Event → List Note → Syste
   Goes : {events : List Event} {notes : List Note} {w new : SystemWorld V} (ev : Event) (to : Outcome)
       (freed : List Sent) → Noted s events notes w → OnAny s w ev to freed new
       → Noted s (events ++ ev ∷ []) (notes ++ note_of ev to freed new ∷ []) new
+
+-- What the notes say that the present master did: behind each event, those of its moves that are kept, and then the new
+-- ones. A crash and the recovery behind it keep the moves up to the stored snapshot.
+abbrev pub moves_noted : List Made → List Note → List Made
+moves_noted before [] = before
+moves_noted before (n ∷ later) = moves_noted (take n.kept before ++ n.made) later
+
+-- and who made its moves
+abbrev pub movers_noted : List ℕ → List Note → List ℕ
+movers_noted before [] = before
+movers_noted before (n ∷ later) = movers_noted (take n.kept before ++ n.movers) later

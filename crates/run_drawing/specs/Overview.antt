@@ -1,21 +1,25 @@
--- The overview of a long run: how many packets came in and were released, against the number of events, at 200 of them
--- at most; and where an epoch began.
-use Rattle.std.specs.Prelude.{ℕ, ◌+◌, ◌-◌, ◌*◌, ◌/◌, ◌%◌, ◌==◌, max, min, if◌then◌else◌, List, [], ◌∷◌, ◌++◌, length}
+-- The overview of a long run: how many packets came in, how many outputs were released and how many wait, against the
+-- number of events, at 200 of them at most; where an epoch began; and how many moves each thread made.
+use Rattle.std.specs.Prelude.{ℕ, ◌+◌, ◌/◌, ◌%◌, ◌==◌, max, if◌then◌else◌, List, [], ◌∷◌, ◌++◌, length}
 use Rattle.std.specs.Prelude.{None, Some, codes, decimal}
 use Rattle.svg_text.specs.declared.class.Class.{Class}
 use Rattle.svg_text.specs.declared.class.Class.TheVariants as class
 use Rattle.svg_text.specs.declared.drawing.Element.{Element}
 use Rattle.svg_text.specs.declared.drawing.Point.{Point}
+use Rattle.svg_text.specs.declared.drawing.Shape.{Shape}
 use Rattle.svg_text.specs.declared.drawing.Shape.TheVariants as shape
 use Rattle.run_drawing.specs.declared.note.Note.{Note}
 use Rattle.run_drawing.specs.declared.samples.Sample.{Sample}
 use Rattle.run_drawing.specs.declared.samples.Count.{Count}
 use Rattle.run_drawing.specs.declared.samples.Count.TheVariants as count
+use Rattle.run_drawing.specs.Scales.{across, upwards}
+use Rattle.run_drawing.specs.Slices.{floors_of, word_at}
 
 -- Samples
 
 abbrev pub sample_of : ℕ → Note → Sample
-sample_of i n = record { index = i; fed = n.fed; released = n.released; epoch = n.epoch }
+sample_of i n =
+    record { index = i; fed = n.fed; released = n.released; waiting = n.waiting; epoch = n.epoch }
 
 -- every so many notes one, where the first of these has this place
 abbrev pub samples_from : ℕ → ℕ → List Note → List Sample
@@ -32,19 +36,14 @@ samples_of notes = samples_from (every_of notes) 0 notes
 -- the greatest count
 abbrev pub most_from : ℕ → List Note → ℕ
 most_from most [] = most
-most_from most (n ∷ later) = most_from (max most (max n.fed n.released)) later
+most_from most (n ∷ later) = most_from (max most (max (max n.fed n.released) n.waiting)) later
 
--- Places: events to the right, counts upwards
-
-abbrev pub across : ℕ → ℕ → ℕ
-across many i = 120 + min (min i 1000000000 * 1000 / max 1 many) 1000
-
-abbrev pub upwards : ℕ → ℕ → ℕ
-upwards most n = 260 - min (min n 1000000000 * 200 / max 1 most) 200
+-- Curves
 
 abbrev pub counted : Count → Sample → ℕ
 counted count.Fed s = s.fed
 counted count.Left s = s.released
+counted count.Held s = s.waiting
 
 abbrev pub point_at : Count → ℕ → ℕ → Sample → Point
 point_at c many most s = record { x = across many s.index; y = upwards most (counted c s) }
@@ -56,6 +55,7 @@ points_from c many most (s ∷ samples) = point_at c many most s ∷ points_from
 abbrev pub count_class : Count → Class
 count_class count.Fed = class.Fed
 count_class count.Left = class.Left
+count_class count.Held = class.Held
 
 abbrev pub curve : Count → ℕ → ℕ → List Sample → Element
 curve c many most samples = record {
@@ -79,10 +79,7 @@ epochs_from many before [] = []
 epochs_from many before (s ∷ samples) =
     (if s.epoch == before then [] else epoch_line many s ∷ []) ++ epochs_from many s.epoch samples
 
--- The overview
-
-abbrev pub label_at : ℕ → ℕ → List ℕ → Element
-label_at x y words = record { class = class.Label; title = None; shape = shape.Words (record { x = x; y = y }) words }
+-- The axis and the legend
 
 abbrev pub axis : Element
 axis = record {
@@ -91,17 +88,41 @@ axis = record {
   shape = shape.Line (record { x = 120; y = 260 }) (record { x = 1120; y = 260 });
 }
 
-abbrev pub curves : ℕ → ℕ → List Sample → List Element
-curves many most samples = curve count.Fed many most samples ∷ curve count.Left many most samples ∷ []
-
-abbrev pub axis_words : List ℕ
-axis_words = codes "packets that came in (black) and were released (green), event by event; epochs (red)"
-
 abbrev pub axis_elements : List Element
-axis_elements = axis ∷ label_at 120 280 axis_words ∷ []
+axis_elements = axis ∷ word_at 1130 264 (codes "events") ∷ []
 
-abbrev pub overview_of : ℕ → ℕ → List Sample → List Element
-overview_of many most samples = axis_elements ++ epochs_from many 1 samples ++ curves many most samples
+-- a thing of the legend with its word
+unfoldable pub key_of : ℕ → Class → Shape → List ℕ → List Element
+key_of x c s word = (record { class = c; title = None; shape = s }) ∷ word_at (x + 24) 284 word ∷ []
 
-abbrev pub overview : List Note → List Element
-overview notes = overview_of (length notes) (most_from 0 notes) (samples_of notes)
+abbrev pub line_key : ℕ → Class → List ℕ → List Element
+line_key x c word =
+    key_of x c (shape.Line (record { x = x; y = 280 }) (record { x = x + 18; y = 280 })) word
+
+abbrev pub curve_keys : List Element
+curve_keys =
+    line_key 120 class.Fed (codes "packets that came in")
+    ++ line_key 320 class.Left (codes "outputs released")
+    ++ line_key 500 class.Held (codes "outputs that wait")
+
+abbrev pub bar_key : List Element
+bar_key = key_of 840 class.Bar (shape.Rectangle (record { x = 840; y = 272 }) 18 16) (codes "moves of a thread")
+
+abbrev pub other_keys : List Element
+other_keys = line_key 680 class.Crash (codes "a new epoch") ++ bar_key
+
+-- The overview
+
+abbrev pub curves : ℕ → ℕ → List Sample → List Element
+curves many most samples =
+    curve count.Fed many most samples ∷ curve count.Left many most samples ∷ curve count.Held many most samples ∷ []
+
+abbrev pub chart_of : ℕ → ℕ → List Sample → List Element
+chart_of many most samples = axis_elements ++ epochs_from many 1 samples ++ curves many most samples
+
+abbrev pub chart : List Note → List Element
+chart notes = chart_of (length notes) (most_from 0 notes) (samples_of notes)
+
+-- of so many threads
+abbrev pub overview : ℕ → List Note → List Element
+overview threads notes = chart notes ++ (curve_keys ++ other_keys) ++ floors_of threads notes

@@ -26,6 +26,7 @@ use Rattle.run_drawing.specs.Marks.{access_before, arrow_from, entry_with, mark_
 use Rattle.run_drawing.specs.Marks.{var_of}
 use Rattle.run_drawing.specs.Overview.{overview}
 use Rattle.run_drawing.specs.Places.{columns, entry_lane, in_cell, left, output_lane, top, width}
+use Rattle.run_drawing.specs.Scales.{overview_high}
 
 -- Moves
 
@@ -279,18 +280,19 @@ is_small notes = are_short notes && nat_le (columns 0 notes) 400
 -- and else told in an overview
 abbrev pub drawn_elements : ℕ → List Note → List Element
 drawn_elements threads notes =
-    if is_small notes then run_elements (columns 0 notes) threads notes else overview notes
+    if is_small notes then run_elements (columns 0 notes) threads notes else overview threads notes
 
+-- It is as wide as its columns, and an overview 1300, however long the run is.
 abbrev pub wide_of : List Note → ℕ
-wide_of notes = max 1300 (left (columns 0 notes) + 40)
+wide_of notes = if is_small notes then max 1300 (left (columns 0 notes) + 40) else 1300
 
-abbrev pub high_of : ℕ → ℕ
-high_of threads = max 300 (top (threads + 4) + 20)
+abbrev pub high_of : ℕ → List Note → ℕ
+high_of threads notes = if is_small notes then max 300 (top (threads + 4) + 20) else overview_high threads
 
 abbrev pub picture : List ℕ → List ℕ → ℕ → List Note → Drawing
 picture title last threads notes = record {
   width = wide_of notes;
-  height = high_of threads;
+  height = high_of threads notes;
   title = title;
-  elements = frame_elements (wide_of notes) (high_of threads) title last ++ drawn_elements threads notes;
+  elements = frame_elements (wide_of notes) (high_of threads notes) title last ++ drawn_elements threads notes;
 }

@@ -1,11 +1,14 @@
--- What a picture shows of the moves and of the released outputs, in order.
-use Rattle.std.specs.Prelude.{ℕ, zero, suc, ◌+◌, ◌-◌, Bool, true, false, List, [], ◌∷◌, ◌++◌, filter, map, codes}
-use Rattle.std.specs.Prelude.{decimal}
+-- What a picture shows of the moves and of the released outputs, in order; and how far its parts reach.
+use Rattle.std.specs.Prelude.{ℕ, zero, suc, ◌+◌, ◌-◌, ◌*◌, max, Bool, true, false, List, [], ◌∷◌, ◌++◌, filter, map}
+use Rattle.std.specs.Prelude.{codes, decimal, length}
 use Rattle.std.specs.Prelude.{Option, Some}
 use Rattle.std.specs.List.{flat_map}
 use Rattle.svg_text.specs.declared.class.Class.{Class}
 use Rattle.svg_text.specs.declared.class.Class.TheVariants as class
 use Rattle.svg_text.specs.declared.drawing.Element.{Element}
+use Rattle.svg_text.specs.declared.drawing.Point.{Point}
+use Rattle.svg_text.specs.declared.drawing.Shape.{Shape}
+use Rattle.svg_text.specs.declared.drawing.Shape.TheVariants as shape
 use Rattle.run_drawing.specs.declared.note.Note.{Note}
 use Rattle.run_drawing.specs.Marks.{move_title}
 
@@ -46,3 +49,17 @@ abbrev pub release_titles : ℕ → List Note → List (Option (List ℕ))
 release_titles before [] = []
 release_titles before (n ∷ later) =
     numbered_releases n.line (before + 1) (n.released - before) ++ release_titles n.released later
+
+-- how far points are to the right
+abbrev pub furthest : List Point → ℕ
+furthest [] = 0
+furthest (p ∷ points) = max p.x (furthest points)
+
+-- how far to the right a shape reaches: words by 8 units for each of their bytes, in a font of 12
+abbrev pub reach : Shape → ℕ
+reach (shape.Line from to) = max from.x to.x
+reach (shape.Rectangle corner width height) = corner.x + width
+reach (shape.Circle middle radius) = middle.x + radius
+reach (shape.Polygon points) = furthest points
+reach (shape.Polyline points) = furthest points
+reach (shape.Words at words) = at.x + 8 * length words

@@ -1,9 +1,12 @@
 //! Laws of the picture. Each is proved, and does nothing: a caller has it by the call.
-ghost use Rattle.std.specs.Prelude.{◌≡◌, ℕ, List};
+ghost use Rattle.std.specs.Prelude.{◌≡◌, ◌≤◌, ◌<◌, ℕ, All, List, false, length, sum};
 ghost use Rattle.std.specs.List.{flat_map};
-ghost use Rattle.run_drawing.specs.Picture.{at_first, events_from};
+ghost use Rattle.svg_text.specs.declared.drawing.Element as element_of;
+ghost use Rattle.run_drawing.specs.Overview.{overview};
+ghost use Rattle.run_drawing.specs.Slices.{moves_in, moves_of, slices_of};
+ghost use Rattle.run_drawing.specs.Picture.{at_first, events_from, is_small, wide_of};
 ghost use Rattle.run_drawing.specs.Promises.{is_move, is_released, move_titles, release_titles};
-ghost use Rattle.run_drawing.specs.Promises.{titles_where};
+ghost use Rattle.run_drawing.specs.Promises.{reach, titles_where};
 ghost use Rattle.run_drawing.specs.declared.note.Note as note_of;
 
 /// The marks in the lanes are, in order, those of all moves that were made, each once.
@@ -16,4 +19,18 @@ pub fn every_move_has_one_mark()
 pub fn every_released_output_has_one_full_mark()
     ensures { (threads : ℕ) (notes : List note_of.Note)
         → titles_where is_released (events_from threads at_first notes) ≡ release_titles 0 notes }
+{}
+
+/// An overview is 1300 wide, however long the run is, and nothing in it reaches further to the right.
+pub fn an_overview_is_1300_wide()
+    ensures width { (notes : List note_of.Note) → is_small notes ≡ false → wide_of notes ≡ 1300 }
+    ensures within { (threads : ℕ) (notes : List note_of.Note) → threads < 1000
+        → All (λ (e : element_of.Element). reach e.shape ≤ 1300) (overview threads notes) }
+{}
+
+/// An overview has at most 50 slices, and the moves of a thread in all of them are all that are noted of it.
+pub fn slices_have_all_moves()
+    ensures few { (thread : ℕ) (notes : List note_of.Note) → length (slices_of thread notes) ≤ 50 }
+    ensures all { (thread : ℕ) (notes : List note_of.Note)
+        → sum (moves_in (slices_of thread notes)) ≡ moves_of thread notes }
 {}

@@ -2,8 +2,10 @@
 //! output logger, a mark for each move and each released output, crashes and epochs.
 #![tactic(auto)]
 
+mod bars;
 mod events;
 mod ground;
+mod keys;
 mod laws;
 mod legend;
 mod marks;
@@ -13,8 +15,13 @@ mod overview;
 mod picture;
 mod places;
 mod samples;
+mod scales;
 mod signs;
+mod slices;
 
-pub use laws::{every_move_has_one_mark, every_released_output_has_one_full_mark};
-pub use note::{Cell, Note};
+pub use laws::{
+    an_overview_is_1300_wide, every_move_has_one_mark, every_released_output_has_one_full_mark,
+    slices_have_all_moves,
+};
+pub use note::{Cell, Movers, Note};
 pub use picture::put_picture;

@@ -24,7 +24,7 @@ pub fn put_named(out: &mut Bytes, word: &[u8], number: u64) -> Result<(), NoMemo
 }
 
 /// Appends two words, each with its number.
-fn put_two(
+pub fn put_two(
     out: &mut Bytes,
     word: &[u8],
     number: u64,

@@ -1,14 +1,16 @@
 ghost use Rattle.std.specs.Prelude.{◌≡◌, ◌++◌, ◌≤◌, IfOk, OnOk};
-ghost use Rattle.run_drawing.specs.Overview.{across as across_of, axis_elements, counted, curve};
-ghost use Rattle.run_drawing.specs.Overview.{count_class, curves, epoch_line, epochs_from};
-ghost use Rattle.run_drawing.specs.Overview.{most_from, overview, overview_of, point_at};
-ghost use Rattle.run_drawing.specs.Overview.{points_from};
-ghost use Rattle.run_drawing.specs.Overview.{samples_from, upwards as upwards_of};
+ghost use Rattle.run_drawing.specs.Overview.{axis_elements, chart as chart_for, chart_of, counted};
+ghost use Rattle.run_drawing.specs.Overview.{count_class, curve, curves, epoch_line, epochs_from};
+ghost use Rattle.run_drawing.specs.Overview.{most_from, overview, point_at, points_from};
+ghost use Rattle.run_drawing.specs.Overview.{samples_from};
 
 use crate::Note;
+use crate::bars::put_floors;
 use crate::ground::words;
+use crate::keys::put_keys;
 use crate::marks::put_named;
 use crate::samples::{Count, Sample};
+use crate::scales::{across, upwards};
 use plain_text::{Bytes, NoMemory};
 use std::alloc::Global;
 use svg_text::{Class, Element, Elements, Point, Points, Shape};
@@ -26,6 +28,7 @@ fn take_samples(alloc: Global, every: u64, notes: &[Note]) -> Result<Vec<Sample>
                 index: place,
                 fed: note.fed,
                 released: note.released,
+                waiting: note.waiting,
                 epoch: note.epoch,
             })?;
         }
@@ -39,25 +42,9 @@ fn most_of(notes: &[Note]) -> u64
 {
     let mut most = 0u64;
     for note in notes {
-        most = most.max(note.fed.max(note.released));
+        most = most.max(note.fed.max(note.released).max(note.waiting));
     }
     most
-}
-
-/// Where an event stands among so many, to the right.
-fn across(many: u64, index: u64) -> u32
-    ensures { result ≡ across_of many index }
-{
-    let place = index.min(1_000_000_000) * 1000 / 1u64.max(many);
-    120 + place.min(1000) as u32
-}
-
-/// Where a count stands, upwards.
-fn upwards(most: u64, number: u64) -> u32
-    ensures { result ≡ upwards_of most number }
-{
-    let height = number.min(1_000_000_000) * 200 / 1u64.max(most);
-    260 - height.min(200) as u32
 }
 
 /// The count of a sample.
@@ -67,6 +54,7 @@ fn count_in(count: Count, sample: Sample) -> u64
     match count {
         Count::Fed => sample.fed,
         Count::Left => sample.released,
+        Count::Held => sample.waiting,
     }
 }
 
@@ -104,6 +92,7 @@ fn class_of(count: Count) -> Class
     match count {
         Count::Fed => Class::Fed,
         Count::Left => Class::Left,
+        Count::Held => Class::Held,
     }
 }
 
@@ -172,12 +161,11 @@ fn put_axis(alloc: Global, out: &mut Elements) -> Result<(), NoMemory>
             to: Point { x: 1120, y: 260 },
         },
     })?;
-    let text =
-        b"packets that came in (black) and were released (green), event by event; epochs (red)";
-    out.push(words(alloc, Class::Label, Point { x: 120, y: 280 }, text)?)
+    let at = Point { x: 1130, y: 264 };
+    out.push(words(alloc, Class::Label, at, b"events")?)
 }
 
-/// Appends both curves.
+/// Appends the three curves.
 fn put_curves(
     alloc: Global,
     out: &mut Elements,
@@ -188,10 +176,11 @@ fn put_curves(
     ensures { OnOk result (out.new ≡ out.old ++ curves many most samples.now) }
 {
     out.push(curve_of(alloc, Count::Fed, many, most, samples)?)?;
-    out.push(curve_of(alloc, Count::Left, many, most, samples)?)
+    out.push(curve_of(alloc, Count::Left, many, most, samples)?)?;
+    out.push(curve_of(alloc, Count::Held, many, most, samples)?)
 }
 
-/// Appends the overview of samples.
+/// Appends the chart of samples.
 fn put_sampled(
     alloc: Global,
     out: &mut Elements,
@@ -199,18 +188,32 @@ fn put_sampled(
     most: u64,
     samples: &[Sample],
 ) -> Result<(), NoMemory>
-    ensures { OnOk result (out.new ≡ out.old ++ overview_of many most samples.now) }
+    ensures { OnOk result (out.new ≡ out.old ++ chart_of many most samples.now) }
 {
     put_axis(alloc, out)?;
     put_epochs(alloc, out, many, samples)?;
     put_curves(alloc, out, many, most, samples)
 }
 
-/// Appends the overview of a long run.
-pub fn put_overview(alloc: Global, out: &mut Elements, notes: &[Note]) -> Result<(), NoMemory>
-    ensures { OnOk result (out.new ≡ out.old ++ overview notes.now) }
+/// Appends the chart of a long run.
+fn put_chart(alloc: Global, out: &mut Elements, notes: &[Note]) -> Result<(), NoMemory>
+    ensures { OnOk result (out.new ≡ out.old ++ chart_for notes.now) }
 {
     let many = notes.len() as u64;
     let samples = take_samples(alloc, many / 200 + 1, notes)?;
     put_sampled(alloc, out, many, most_of(notes), samples.as_slice())
+}
+
+/// Appends the overview of a long run of so many threads.
+pub fn put_overview(
+    alloc: Global,
+    out: &mut Elements,
+    threads: u64,
+    notes: &[Note],
+) -> Result<(), NoMemory>
+    ensures { OnOk result (out.new ≡ out.old ++ overview threads notes.now) }
+{
+    put_chart(alloc, out, notes)?;
+    put_keys(alloc, out)?;
+    put_floors(alloc, out, threads, notes)
 }

@@ -1,8 +1,10 @@
 ghost use Rattle.std.specs.Prelude.{◌≡◌, ◌++◌, ◌<◌, IfOk, OnOk};
 ghost use Rattle.svg_text.specs.Drawing.{drawing_text};
 ghost use Rattle.run_drawing.specs.Picture.{are_short as are_all_short, drawn_elements};
-ghost use Rattle.run_drawing.specs.Picture.{frame_elements, logger_lanes, picture, run_elements};
-ghost use Rattle.run_drawing.specs.Picture.{thread_lanes};
+ghost use Rattle.run_drawing.specs.Picture.{frame_elements, high_of as high_of_all};
+ghost use Rattle.run_drawing.specs.Picture.{is_small as is_small_run};
+ghost use Rattle.run_drawing.specs.Picture.{logger_lanes, picture, run_elements, thread_lanes};
+ghost use Rattle.run_drawing.specs.Picture.{wide_of as wide_of_all};
 ghost use Rattle.run_drawing.specs.Places.{columns};
 
 use crate::Note;
@@ -11,6 +13,7 @@ use crate::ground::{put_bands, put_logger_lanes, put_thread_lanes, width, words}
 use crate::legend::put_legend;
 use crate::overview::put_overview;
 use crate::places::{advance, left, top};
+use crate::scales::overview_high;
 use plain_text::{Bytes, NoMemory};
 use std::alloc::Global;
 use svg_text::{Class, Drawing, Element, Elements, Point, Shape, put_drawing};
@@ -86,6 +89,39 @@ fn put_lanes(alloc: Global, out: &mut Elements, many: u64, threads: u64) -> Resu
     put_logger_lanes(alloc, out, many, threads)
 }
 
+/// Whether a run, which has so many columns, is drawn move by move.
+fn is_small(many: u64, notes: &[Note]) -> bool
+    requires { many ≡ columns 0 notes.now }
+    ensures { result ≡ is_small_run notes.now }
+{
+    are_short(notes) && many <= 400
+}
+
+/// How wide the picture of a run is, which has so many columns.
+fn wide_of(many: u64, notes: &[Note]) -> u32
+    requires { many ≡ columns 0 notes.now }
+    ensures { result ≡ wide_of_all notes.now }
+{
+    if is_small(many, notes) {
+        1300u32.max(left(many) + 40)
+    } else {
+        1300
+    }
+}
+
+/// How high the picture of a run is, which has so many columns.
+fn high_of(many: u64, threads: u64, notes: &[Note]) -> u32
+    requires columns { many ≡ columns 0 notes.now }
+    requires threads { threads < 1000 }
+    ensures { result ≡ high_of_all threads notes.now }
+{
+    if is_small(many, notes) {
+        300u32.max(top(threads + 4) + 20)
+    } else {
+        overview_high(threads)
+    }
+}
+
 /// Appends what is drawn of a run, which has so many columns.
 fn put_drawn(
     alloc: Global,
@@ -98,10 +134,10 @@ fn put_drawn(
     requires threads { threads < 1000 }
     ensures { OnOk result (out.new ≡ out.old ++ drawn_elements threads notes.now) }
 {
-    if are_short(notes) && many <= 400 {
+    if is_small(many, notes) {
         return put_run(alloc, out, many, threads, notes);
     }
-    put_overview(alloc, out, notes)
+    put_overview(alloc, out, threads, notes)
 }
 
 /// The picture of a run, as SVG: with this title, and this last line of its report, of so many threads.
@@ -117,8 +153,8 @@ pub fn put_picture(
         text ≡ drawing_text (picture title.now last.now threads notes.now)) }
 {
     let many = count_columns(notes)?;
-    let wide = 1300u32.max(left(many) + 40);
-    let high = 300u32.max(top(threads + 4) + 20);
+    let wide = wide_of(many, notes);
+    let high = high_of(many, threads, notes);
     let mut elements = Elements::new(alloc);
     put_frame(alloc, &mut elements, wide, high, title, last)?;
     put_drawn(alloc, &mut elements, many, threads, notes)?;

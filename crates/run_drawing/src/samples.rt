@@ -1,3 +1,5 @@
+use plain_text::Sequence;
+
 /// What the overview of a long run tells of one of its events.
 #[derive(Clone, Copy)]
 pub struct Sample {
@@ -7,6 +9,8 @@ pub struct Sample {
     pub fed: u64,
     /// How many outputs were released.
     pub released: u64,
+    /// How many outputs wait.
+    pub waiting: u64,
     pub epoch: u32,
 }
 
@@ -17,4 +21,20 @@ pub enum Count {
     Fed,
     /// The outputs that were released.
     Left,
+    /// The outputs that wait.
+    Held,
 }
+
+/// What a slice of the events has of the moves of a thread.
+#[derive(Clone, Copy)]
+pub struct Slice {
+    /// The place of its first event, from 0.
+    pub first: u64,
+    /// How many events it has.
+    pub events: u64,
+    /// How many moves the thread made in it.
+    pub moves: u64,
+}
+
+/// Slices, in order.
+pub type Slices = Sequence<Slice>;

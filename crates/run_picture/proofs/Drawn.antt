@@ -30,12 +30,14 @@ use Rattle.run_drawing.specs.declared.note.Note.{Note}
 use Rattle.run_drawing.specs.Picture.{at_first, picture}
 use Rattle.run_drawing.proofs.MovesShown.{moves_shown}
 use Rattle.run_drawing.proofs.ReleasesShown.{releases_shown}
+use Rattle.run_drawing.proofs.SlicesWhole.{whole_slices}
 use Rattle.run_picture.specs.declared.running.Gone.{Gone}
 use Rattle.run_picture.specs.declared.picturing.Texts.{Texts}
 use Rattle.run_picture.specs.Going.{HasGone}
 use Rattle.run_picture.specs.Noting.{AreInputs, IsHalted}
 use Rattle.run_picture.specs.Picture.{HasBegunPicture, HasPictured, HasStopped, picture_text, picture_writes}
 use Rattle.run_picture.specs.Picturing.{ComesTo, IsDrawn, IsHalt, WritesPicture}
+use Rattle.run_picture.proofs.AllNoted.{movers_all, moves_all}
 use Rattle.run_picture.proofs.Performed.{stands_same}
 
 -- The texts
@@ -74,6 +76,9 @@ drawn title s events gone h texts text report =
         text_is = same;
         well_formed = subst IsWellFormed (sym same)
             (picture_well_formed (picture title (done_line h.world) s.threads gone.notes));
+        movers_are_all = movers_all s events gone.notes h.world h.noted;
+        moves_are_all = moves_all s events gone.notes h.world h.noted;
+        slices_are_all = λ thread. whole_slices thread gone.notes;
         moves_marked = moves_shown s.threads gone.notes at_first;
         releases_marked = releases_shown s.threads gone.notes at_first;
       };

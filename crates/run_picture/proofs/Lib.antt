@@ -1,3 +1,6 @@
+pub mod AllNoted
 pub mod Drawn
+pub mod Growth
 pub mod MovesNoted
 pub mod Performed
+pub mod Turns

@@ -19,8 +19,8 @@ use Rattle.recovery_world.specs.Files.{moves_made, reply_line, sent_names}
 use Rattle.made_moves.specs.declared.made.Made.{Made}
 use Rattle.made_moves.specs.Made.{made_in, made_where}
 use Rattle.run_drawing.specs.declared.note.Note.{Note}
-use Rattle.run_drawing.specs.Noted.{moves_by, note_of}
-use Rattle.run_picture.specs.Noting.{AreInputs, made_at}
+use Rattle.run_drawing.specs.Noted.{movers_in, moves_by, note_of}
+use Rattle.run_picture.specs.Noting.{AreInputs, made_at, threads_of}
 
 past_plays : {V : Type 0} (s : Setting V) (w : SystemWorld V) → Sound s w
     → play s.meaning (all_inputs s) s.threads (moves_made w.past) ≡ Ok w.past
@@ -120,40 +120,72 @@ pub released_so : {V : Type 0} (w : SystemWorld V) (names : List (ℕ × ℕ)) (
 released_so w names many is same =
     is ∙ (ap (λ (l : List (ℕ × ℕ)). length l) same ∙ names_long w.released)
 
-abbrev pub note_at : Event → Outcome → List ℕ → ℕ → List Made → ℕ → ℕ → ℕ → Bool → ℕ → Note
-note_at ev to l k m n f r u e = record {
+-- who made the moves
+
+threads_append : (a b : List PlainMove) → threads_of (a ++ b) ≡ threads_of a ++ threads_of b
+threads_append [] b = refl
+threads_append (p ∷ a) b = ap (λ (l : List ℕ). p.thread ∷ l) (threads_append a b)
+
+threads_made : {V : Type 0} (steps : List (Step V)) → threads_of (moves_made steps) ≡ movers_in steps
+threads_made [] = refl
+threads_made (x ∷ earlier) =
+    threads_append (moves_made earlier) _ ∙ ap (λ (l : List ℕ). l ++ x.thread ∷ []) (threads_made earlier)
+
+threads_drop : (k : ℕ) (moves : List PlainMove) → threads_of (drop k moves) ≡ drop k (threads_of moves)
+threads_drop zero moves = refl
+threads_drop (suc k) [] = refl
+threads_drop (suc k) (p ∷ moves) = threads_drop k moves
+
+pub movers_so : {V : Type 0} (w : SystemWorld V) (slice : List PlainMove) (kept : ℕ) (movers : List ℕ)
+    → slice ≡ moves_made w.past → movers ≡ threads_of (drop kept slice) → movers ≡ drop kept (movers_in w.past)
+movers_so w slice kept movers same is =
+    is
+    ∙ (ap (λ (l : List PlainMove). threads_of (drop kept l)) same
+    ∙ (threads_drop kept (moves_made w.past) ∙ ap (λ (l : List ℕ). drop kept l) (threads_made w.past)))
+
+abbrev pub note_at : Event → Outcome → List ℕ → ℕ → List Made → List ℕ → ℕ → ℕ → ℕ → ℕ → Bool → ℕ → Note
+note_at ev to l k m v n f r h u e = record {
   event = ev;
   outcome = to;
   line = l;
   kept = k;
   made = m;
+  movers = v;
   moves = n;
   fed = f;
   released = r;
+  waiting = h;
   up = u;
   epoch = e;
 }
 
 pub note_is : {V : Type 0} (ev : Event) (to : Outcome) (freed : List Sent) (w : SystemWorld V) (line : List ℕ)
-    (kept count : ℕ) (made : List Made) (moves fed released : ℕ) (up : Bool) (epoch : ℕ)
+    (kept count : ℕ) (made : List Made) (movers : List ℕ) (moves fed released waiting : ℕ) (up : Bool) (epoch : ℕ)
     → line ≡ reply_line ev to freed → kept ≡ moves - count → count ≡ moves_by to → made ≡ made_at kept w
-    → moves ≡ length w.past → fed ≡ w.fed → released ≡ length w.released → up ≡ w.up → epoch ≡ w.epoch
-    → note_at ev to line kept made moves fed released up epoch ≡ note_of ev to freed w
-note_is ev to freed w line kept count made moves fed released up epoch a b counted c d e f g h =
+    → movers ≡ drop kept (movers_in w.past) → moves ≡ length w.past → fed ≡ w.fed → released ≡ length w.released
+    → waiting ≡ length w.waiting → up ≡ w.up → epoch ≡ w.epoch
+    → note_at ev to line kept made movers moves fed released waiting up epoch ≡ note_of ev to freed w
+note_is ev to freed w line kept count made movers moves fed released waiting up epoch a b counted c v d e f i g h =
     let k : ℕ = length w.past - moves_by to in
     let same : kept ≡ k =
     b ∙ (ap (λ (n : ℕ). n - count) d ∙ ap (λ (n : ℕ). length w.past - n) counted) in
     let what : made ≡ made_at k w = c ∙ ap (λ (n : ℕ). made_at n w) same in
+    let all : List ℕ = drop k (movers_in w.past) in
+    let who : movers ≡ all = v ∙ ap (λ (n : ℕ). drop n (movers_in w.past)) same in
     let words : List ℕ = reply_line ev to freed in
     let many : ℕ = length w.past in
-    ap (λ (x : List ℕ). note_at ev to x kept made moves fed released up epoch) a
-    ∙ (ap (λ (x : ℕ). note_at ev to words x made moves fed released up epoch) same
-    ∙ (ap (λ (x : List Made). note_at ev to words k x moves fed released up epoch) what
-    ∙ (ap (λ (x : ℕ). note_at ev to words k (made_at k w) x fed released up epoch) d
-    ∙ (ap (λ (x : ℕ). note_at ev to words k (made_at k w) many x released up epoch) e
-    ∙ (ap (λ (x : ℕ). note_at ev to words k (made_at k w) many w.fed x up epoch) f
-    ∙ (ap (λ (x : Bool). note_at ev to words k (made_at k w) many w.fed (length w.released) x epoch) g
-    ∙ ap (λ (x : ℕ). note_at ev to words k (made_at k w) many w.fed (length w.released) w.up x) h))))))
+    let out : ℕ = length w.released in
+    let held : ℕ = length w.waiting in
+    ap (λ (x : List ℕ). note_at ev to x kept made movers moves fed released waiting up epoch) a
+    ∙ (ap (λ (x : ℕ). note_at ev to words x made movers moves fed released waiting up epoch) same
+    ∙ (ap (λ (x : List Made). note_at ev to words k x movers moves fed released waiting up epoch) what
+    ∙ (ap (λ (x : List ℕ). note_at ev to words k (made_at k w) x moves fed released waiting up epoch) who
+    ∙ (ap (λ (x : ℕ). note_at ev to words k (made_at k w) all x fed released waiting up epoch) d
+    ∙ (ap (λ (x : ℕ). note_at ev to words k (made_at k w) all many x released waiting up epoch) e
+    ∙ (ap (λ (x : ℕ). note_at ev to words k (made_at k w) all many w.fed x waiting up epoch) f
+    ∙ (ap (λ (x : ℕ). note_at ev to words k (made_at k w) all many w.fed out x up epoch) i
+    ∙ (ap (λ (x : Bool). note_at ev to words k (made_at k w) all many w.fed out held x epoch) g
+    ∙ ap (λ (x : ℕ). note_at ev to words k (made_at k w) all many w.fed out held w.up x) h))))))))
 
 pub behind_known : {V E : Type 0} (m : Meaning V) (inputs : Fed) (moves : List PlainMove) (kept : ℕ)
     → length moves ≤ 400 → (made : List Made)

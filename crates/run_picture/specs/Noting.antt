@@ -2,6 +2,7 @@
 use Rattle.std.specs.Prelude.{◌≡◌, ℕ, nat_le, if◌then◌else◌, List, [], ◌∷◌, ◌++◌, drop, length}
 use Rattle.plain_text.specs.declared.limit.Limit.{Limit}
 use Rattle.input_logger.specs.Inputs.{Fed}
+use Rattle.plain_machine.specs.declared.plain_move.PlainMove.{PlainMove}
 use Rattle.plain_machine.specs.Program.{Meaning}
 use Rattle.recovery_world.specs.declared.event.Event.{Event}
 use Rattle.recovery_world.specs.World.{Setting, World as SystemWorld, opening}
@@ -21,6 +22,11 @@ pub record AreInputs {V : Type 0} (m : Meaning V) (inputs : Fed) (s : Setting V)
 -- what the moves of a world's master did behind the first of them; nothing where there are too many to be drawn
 abbrev pub made_at : {V : Type 0} → ℕ → SystemWorld V → List Made
 made_at kept w = if nat_le (length w.past) 400 then drop kept (made_in w.past) else []
+
+-- the threads of moves
+abbrev pub threads_of : List PlainMove → List ℕ
+threads_of [] = []
+threads_of (p ∷ moves) = p.thread ∷ threads_of moves
 
 -- The events were performed from the opening and noted, and the system stands for their world.
 pub record HasNoted {P V : Type 0} (m : Meaning V) (s : Setting V) (events : List Event) (notes : List Note)

@@ -1,5 +1,5 @@
 -- What the command `picture` leaves: the picture of a run, and the last line of the report of `run`.
-use Rattle.std.specs.Prelude.{◌≡◌, ◌⊎◌, ℕ, List, [], ◌∷◌, ◌++◌, Some}
+use Rattle.std.specs.Prelude.{◌≡◌, ◌⊎◌, ℕ, true, List, [], ◌∷◌, ◌++◌, Some, sum}
 use Rattle.std.specs.List.{flat_map}
 use Rattle.plain_text.specs.declared.limit.Limit.{Limit}
 use Rattle.plain_text.specs.declared.packet.Packet.{Packet}
@@ -12,9 +12,11 @@ use Rattle.run_writes.specs.Run.{KeepsShown}
 use Rattle.svg_text.specs.Drawing.{drawing_text}
 use Rattle.svg_text.specs.WellFormed.{IsWellFormed}
 use Rattle.run_drawing.specs.declared.note.Note.{Note}
-use Rattle.run_drawing.specs.Noted.{Noted}
-use Rattle.run_drawing.specs.Picture.{at_first, events_from, picture}
+use Rattle.made_moves.specs.Made.{made_in}
+use Rattle.run_drawing.specs.Noted.{Noted, movers_in, movers_noted, moves_noted}
+use Rattle.run_drawing.specs.Picture.{are_short, at_first, events_from, picture}
 use Rattle.run_drawing.specs.Promises.{is_move, is_released, move_titles, release_titles, titles_where}
+use Rattle.run_drawing.specs.Slices.{moves_in, moves_of, slices_of}
 
 -- the bytes of a picture with this title, and with this last line of the report, of so many threads
 unfoldable pub picture_text : List ℕ → List ℕ → ℕ → List Note → List ℕ
@@ -29,6 +31,11 @@ pub record Pictures {V : Type 0} (title : List ℕ) (s : Setting V) (events : Li
   pub text_is : text ≡ picture_text title (done_line w) s.threads notes
   -- it is well-formed, whatever its title and the lines of the report are
   pub well_formed : IsWellFormed text
+  -- all moves of the run are noted: who made each, and what it did, where no master made more than 400
+  pub movers_are_all : movers_noted [] notes ≡ movers_in w.past
+  pub moves_are_all : are_short notes ≡ true → moves_noted [] notes ≡ made_in w.past
+  -- in an overview, the slices of a thread have all moves of it that are noted
+  pub slices_are_all : (thread : ℕ) → sum (moves_in (slices_of thread notes)) ≡ moves_of thread notes
   -- where it is drawn move by move, each move that was made has one mark, and each output that was released a full one
   pub moves_marked : titles_where is_move (events_from s.threads at_first notes) ≡ flat_map move_titles notes
   pub releases_marked : titles_where is_released (events_from s.threads at_first notes) ≡ release_titles 0 notes

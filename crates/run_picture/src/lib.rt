@@ -3,9 +3,11 @@
 #![tactic(auto)]
 
 mod inputs;
+mod laws;
 mod noting;
 mod performing;
 mod picturing;
 mod running;
 
+pub use laws::all_moves_are_noted;
 pub use picturing::run_picture;

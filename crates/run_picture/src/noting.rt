@@ -5,7 +5,7 @@ ghost use Rattle.recovery_world.specs.World.{Sent, Setting, World};
 ghost use Rattle.recovery_core.specs.Systems.{SystemStands};
 ghost use Rattle.made_moves.specs.Made.{made_in};
 ghost use Rattle.run_drawing.specs.Noted.{moves_by, note_of};
-ghost use Rattle.run_picture.specs.Noting.{AreInputs, made_at};
+ghost use Rattle.run_picture.specs.Noting.{AreInputs, made_at, threads_of};
 
 use box_program::Program;
 use input_logger::InputLog;
@@ -14,7 +14,7 @@ use plain_machine::PlainMove;
 use plain_text::{Bytes, NoMemory};
 use recovery_core::{Reply, System, put_line};
 use recovery_world::{Event, Outcome};
-use run_drawing::Note;
+use run_drawing::{Movers, Note};
 use std::alloc::Global;
 
 /// The most moves of a master that are noted.
@@ -85,6 +85,18 @@ fn made_behind<P: Program>(
     behind(alloc, made.as_slice(), kept)
 }
 
+/// Who made the moves behind the first of them.
+fn movers_of(alloc: Global, moves: &[PlainMove], first: usize) -> Result<Movers, NoMemory>
+    ensures { IfOk result (λ movers. movers ≡ threads_of (drop first moves.now)) }
+{
+    let from = first.min(moves.len());
+    let mut movers = Movers::new(alloc);
+    for plain in &moves[from..] {
+        movers.push(plain.thread)?;
+    }
+    Ok(movers)
+}
+
 /// What is noted of an event that a system performed with this reply. All packets of the capture are the inputs.
 pub fn note_event<P: Program>(
     alloc: Global,
@@ -106,6 +118,7 @@ pub fn note_event<P: Program>(
     let many = moves.len() as u64;
     let kept = many.saturating_sub(count_moves(&reply.outcome));
     let made = made_behind(alloc, program, inputs, moves, kept as usize)?;
+    let movers = movers_of(alloc, moves, kept as usize)?;
     let Reply {
         outcome,
         released: _,
@@ -116,9 +129,11 @@ pub fn note_event<P: Program>(
         line,
         kept,
         made,
+        movers,
         moves: many,
         fed: inputs.fed().saturating_sub(system.left()),
         released: system.released().len() as u64,
+        waiting: system.waiting(),
         up: system.up(),
         epoch: system.epoch(),
     })

@@ -12,4 +12,4 @@ pub use closing::{put_done, write_closing};
 pub use error::{RunError, stopped, written};
 pub use laws::outputs_keep_step;
 pub use opening::{OutputFiles, RunFiles, ScriptRun, open_outputs};
-pub use replying::{write_reply, write_stopped};
+pub use replying::{write_outputs, write_reply, write_stopped};

@@ -91,7 +91,7 @@ fn append_outputs<W: World>(
 
 /// Appends the records of the packets of outputs to an output, behind the gathered lines: where there are outputs, the
 /// lines go to the report first.
-fn write_outputs<W: World>(
+pub fn write_outputs<W: World>(
     alloc: Global,
     world: &mut W,
     file: u32,

@@ -161,6 +161,27 @@ fn reads_box_files(rt: HostRuntime) {
 }
 
 /// Whether a text is no box file, with this text of its first fault.
+/// Whether the box file is one of a NAT with this number of seconds for connections that are not established.
+fn has_closing(text: &str, wanted: Option<u32>) -> bool {
+    match read_box(text.as_bytes()) {
+        Ok(conf) => match &conf.kind {
+            BoxKind::Nat(nat) => nat.closing == wanted,
+            BoxKind::Count(_) | BoxKind::Monitor(_) | BoxKind::Balancer(_) => false,
+        },
+        Err(_) => false,
+    }
+}
+
+#[test]
+fn reads_the_line_closing(rt: HostRuntime) {
+    let without = "box nat\ninside 10.0.0.0 8\noutside 203.0.113.1";
+    let with = "box nat\nclosing 240\ninside 10.0.0.0 8\noutside 203.0.113.1";
+    let most = "box nat\ninside 10.0.0.0 8\noutside 203.0.113.1\nclosing 4294967295";
+    assert!(rt; has_closing(without, None));
+    assert!(rt; has_closing(with, Some(240)));
+    assert!(rt; has_closing(most, Some(4_294_967_295)));
+}
+
 fn has_fault(alloc: Global, text: &str, wanted: &str) -> Result<bool, NoMemory> {
     match read_box(text.as_bytes()) {
         Ok(_) => Ok(false),
@@ -205,7 +226,12 @@ const FAULTS: [Row; 26] = [
 ];
 
 /// The same for a NAT.
-const NAT_FAULTS: [Row; 25] = [
+const NAT_FAULTS: [Row; 30] = [
+    ("box nat\nclosing", "line 2: missing word"),
+    ("box nat\nclosing 0", "line 2: out of range"),
+    ("box nat\nclosing 4294967296", "line 2: out of range"),
+    ("box nat\nclosing 1\nclosing 1", "line 3: twice"),
+    ("box monitor\nclosing 1", "line 2: unknown word"),
     ("box nat\n\n", "line 3: missing line"),
     ("box nat\ninside 10.0.0.0 8", "line 3: missing line"),
     ("box nat\noutside 10.0.0.0\n# x\n", "line 4: missing line"),

@@ -1,4 +1,6 @@
-use nat_tables::{Bind, BoundPort, Endpoint, Find, Forward, Freed, Pool, Reverse};
+ghost use Rattle.std.specs.Prelude.{◌≤◌};
+
+use nat_tables::{Bind, BoundPort, Endpoint, Find, Forward, Freed, Pool, Reverse, Segment};
 use plain_text::NoMemory;
 use std::alloc::Global;
 use std::test::Fail;
@@ -101,6 +103,40 @@ fn ages(alloc: Global) -> Result<bool, NoMemory> {
     Ok(first && none && copy.len() == 201 && ordered)
 }
 
+/// A table with one TCP mapping, used at 0, whose connection is followed: each of these segments came from its inside
+/// endpoint, one after another. Where the connection is not established its mapping is kept for 240 seconds.
+fn followed(alloc: Global, segments: &[Segment]) -> Result<Forward, NoMemory> {
+    let mut table = Forward::new(alloc);
+    table.find_or_bind(&endpoint(6, 5000), 10, 0)?;
+    for segment in segments {
+        table.mark(&endpoint(6, 5000), 240, *segment);
+    }
+    Ok(table)
+}
+
+/// Whether the mapping is kept for so many microseconds without use, and no longer; a packet of another endpoint finds
+/// it idle then.
+fn is_kept_for(mut table: Forward, time: u64) -> bool
+    requires { 1 ≤ time }
+{
+    let key = endpoint(6, 5000);
+    let kept = table.lives(&key, 10, time - 1) && !table.lives(&key, 10, time);
+    let other = endpoint(17, 1);
+    let early = table.find(&other, time - 1) == Find::Absent(None);
+    let freed = Freed {
+        protocol: 6,
+        port: 10,
+    };
+    kept && early && table.find(&other, time) == Find::Absent(Some(freed))
+}
+
+/// Whether a mapping after these segments is kept for so many microseconds.
+fn keeps(alloc: Global, segments: &[Segment], time: u64) -> Result<bool, NoMemory>
+    requires { 1 ≤ time }
+{
+    Ok(is_kept_for(followed(alloc, segments)?, time))
+}
+
 /// Binds a port of each protocol, and that of UDP again.
 fn bind_ports(table: &mut Reverse) -> Result<(), NoMemory> {
     table.bind(17, 10, &endpoint(17, 1))?;
@@ -158,6 +194,33 @@ fn tables_find_what_was_put_in(rt: HostRuntime) -> Result<(), Fail> {
     assert!(rt; has_ports(rt.alloc())?);
     assert!(rt; has_mappings(rt.alloc())?);
     assert!(rt; has_bound_ports(rt.alloc())?);
+    Ok(())
+}
+
+/// 240 seconds, and 7,440 seconds.
+const SHORT: u64 = 240_000_000;
+
+const LONG: u64 = 7_440_000_000;
+
+#[test]
+fn mappings_are_kept_by_their_segments(rt: HostRuntime) -> Result<(), Fail> {
+    let alloc = rt.alloc();
+    assert!(rt; keeps(alloc, &[], LONG)?);
+    assert!(rt; keeps(alloc, &[Segment::Opens], SHORT)?);
+    assert!(rt; keeps(alloc, &[Segment::Silent], SHORT)?);
+    assert!(rt; keeps(alloc, &[Segment::Carries], LONG)?);
+    assert!(rt; keeps(alloc, &[Segment::Opens, Segment::Carries], LONG)?);
+    assert!(rt; keeps(alloc, &[Segment::Carries, Segment::Silent], LONG)?);
+    assert!(rt; keeps(alloc, &[Segment::Carries, Segment::Closes], SHORT)?);
+    let ended = [Segment::Carries, Segment::Closes, Segment::Carries];
+    assert!(rt; keeps(alloc, &ended, SHORT)?);
+    let again = [
+        Segment::Carries,
+        Segment::Closes,
+        Segment::Opens,
+        Segment::Carries,
+    ];
+    assert!(rt; keeps(alloc, &again, LONG)?);
     Ok(())
 }
 

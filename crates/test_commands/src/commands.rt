@@ -96,7 +96,7 @@ pub fn give_words(
     words: &[&str],
 ) -> Result<Status, NoMemory>
     requires { length world.old.files ≤ 1000 }
-    ensures { length world.new.files ≤ length world.old.files + 5 }
+    ensures { length world.new.files ≤ length world.old.files + 8 }
 {
     let texts = texts_of(alloc, words)?;
     let texts = texts.as_slice();

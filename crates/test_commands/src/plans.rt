@@ -41,7 +41,7 @@ fn race_by_words<G: Gate + Sync, R: AllocGlobal + Threads + Wait + Sync>(
     words: &[&str],
 ) -> Result<Status, NoMemory>
     requires { length world.old.files ≤ 1000 }
-    ensures { length world.new.files ≤ length world.old.files + 6 }
+    ensures { length world.new.files ≤ length world.old.files + 8 }
 {
     let texts = texts_of(rt.alloc(), words)?;
     Ok(ftmb(rt, texts.as_slice(), world, &FixedClock(100_000_006), gate))
@@ -50,7 +50,7 @@ fn race_by_words<G: Gate + Sync, R: AllocGlobal + Threads + Wait + Sync>(
 /// Sets the files of a race.
 fn prepare(alloc: Global, world: &mut MemoryWorld, race: &Race<'_>) -> Result<(), NoMemory>
     requires { length world.old.files ≤ 500 }
-    ensures { length world.new.files ≤ length world.old.files + 5 }
+    ensures { length world.new.files ≤ length world.old.files + 8 }
 {
     add_files(alloc, world, &[("box", race.box_file), ("plan", race.plan)])?;
     match race.capture {
@@ -70,7 +70,7 @@ fn race_as_told<G: Gate + Sync, R: AllocGlobal + Threads + Wait + Sync>(
     race: &Race<'_>,
 ) -> Result<Option<Bytes>, NoMemory>
     requires { length world.old.files ≤ 900 }
-    ensures { length world.new.files ≤ length world.old.files + 6 }
+    ensures { length world.new.files ≤ length world.old.files + 8 }
 {
     let words = ["live", "box", "in", "plan", "out", "moves", "script"];
     let before = world.report().len();
@@ -92,7 +92,7 @@ fn runs_the_same(
     report: &[u8],
 ) -> Result<bool, NoMemory>
     requires { length world.old.files ≤ 900 }
-    ensures { length world.new.files ≤ length world.old.files + 5 }
+    ensures { length world.new.files ≤ length world.old.files + 8 }
 {
     let words = ["run", "box", "in", "script", "out_again", "moves_again"];
     let before = world.report().len();
@@ -118,7 +118,7 @@ fn agrees_in<G: Gate + Sync, R: AllocGlobal + Threads + Wait + Sync>(
     race: &Race<'_>,
 ) -> Result<bool, NoMemory>
     requires { length world.old.files ≡ 0 }
-    ensures { length world.new.files ≤ 20 }
+    ensures { length world.new.files ≤ 24 }
 {
     prepare(rt.alloc(), world, race)?;
     let Some(report) = race_as_told(rt, gate, world, race)? else {

@@ -27,7 +27,7 @@ use Rattle.thread_steps.specs.Following.{HasTurnBy}
 use Rattle.system_parts.specs.Parts.{Parts}
 use Rattle.system_parts.specs.SystemStanding.{StandsFor}
 use Rattle.box_program.specs.Hands.{FitsProgram}
-use Rattle.master_core.specs.Mastered.{value_of}
+use Rattle.master_core.specs.Mastered.{Mastered, value_of}
 use Rattle.master_core.specs.MasterStanding.{Stands}
 use Rattle.master_core.specs.declared.parts.VarPart.{VarPart}
 
@@ -81,6 +81,24 @@ wants_read {V} m steps t n v p e = go (thread_after steps t).hand refl e
         → WantsVar m steps t (move.Read v) n v p
     go None here e = absurd (cc)
     go (Some h) here e = at h (m.next h.place) here refl e
+
+-- what is wanted of the parts as they were is wanted of the same parts
+pub wanted_inside : {P V : Type 0} (meaning : P → Meaning V) (y old : Parts P V) (t : ℕ) (r : Wants) → y ≡ old
+    → ((threads : ℕ) (steps : List (Step V)) → Stands (meaning old.program) threads steps old.master
+    → r ≡ wanted (meaning old.program) steps t)
+    → (threads : ℕ) (steps : List (Step V)) → Stands (meaning y.program) threads steps y.master
+    → r ≡ wanted (meaning y.program) steps t
+wanted_inside {P} {V} meaning y old t r same says = subst (λ (q : Parts P V). (threads : ℕ) (steps : List (Step V))
+    → Stands (meaning q.program) threads steps q.master → r ≡ wanted (meaning q.program) steps t) (sym same) says
+
+-- what is wanted, by the meaning of the setting
+pub wanted_by_setting : {V : Type 0} (m : Meaning V) (s : Setting V) (w : World V) (p : Mastered V) (t : ℕ) (r : Wants)
+    → s.meaning ≡ m → Stands s.meaning s.threads w.past p
+    → ((threads : ℕ) (steps : List (Step V)) → Stands m threads steps p → r ≡ wanted m steps t)
+    → r ≡ wanted s.meaning w.past t
+wanted_by_setting {V} m s w p t r is stands says =
+    says s.threads w.past (subst (λ (q : Meaning V). Stands q s.threads w.past p) is stands)
+    ∙ sym (ap (λ (q : Meaning V). wanted q w.past t) is)
 
 -- a thread that wants no variable waits for nothing
 pub other_turn : {V : Type 0} (s : Setting V) (w : World V) (t : ℕ)

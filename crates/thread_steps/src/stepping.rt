@@ -1,14 +1,12 @@
-ghost use Rattle.std.specs.Prelude.{◌≡◌, ◌<◌, ◌≤◌, ◌+◌, ℕ, IfOk, OnOk, OnErr, Some, Err, length};
+ghost use Rattle.std.specs.Prelude.{◌≡◌, ◌<◌, ◌≤◌, ◌+◌, ℕ, List, IfOk, OnOk, OnErr, Some, Err};
 ghost use Rattle.std.specs.Prelude.{true};
 ghost use Rattle.std.specs.Option.{unwrap_or};
 ghost use Rattle.random_words.specs.Words.{generator_after};
 ghost use Rattle.plain_text.specs.declared.limit.Limit.{Limit as LimitKind};
 ghost use Rattle.plain_text.specs.declared.limit.TheConstants.{MOST_CAPTURED};
 ghost use Rattle.plain_machine.specs.History.{Step, thread_after};
-ghost use Rattle.box_program.specs.Hands.{FitsProgram};
-ghost use Rattle.master_core.specs.Mastered.{value_of};
 ghost use Rattle.master_core.specs.MasterStanding.{Stands};
-ghost use Rattle.master_core.specs.Stepping.{told_in};
+ghost use Rattle.master_core.specs.Stepping.{told_in, wanted};
 ghost use Rattle.recovery_world.specs.declared.event.Event.TheVariants as event_is;
 ghost use Rattle.recovery_world.specs.World.{Setting, World};
 ghost use Rattle.recovery_world.specs.Events.{TellsHand, entry_outcome as outcome_is};
@@ -26,7 +24,7 @@ use access_log::{Turn, What};
 use box_program::Program;
 use event_replies::Stop;
 use kept_moves::Form;
-use master_core::{Master, Stepped, Wants};
+use master_core::{Stepped, Wants};
 use plain_machine::PlainMove;
 use plain_text::{Limit, MOST_MOVES, MOST_OUTPUT_BYTES};
 use rand_pcg::Pcg32;
@@ -77,14 +75,17 @@ fn limit_passed(moves: u64, bytes: u64) -> Option<Limit>
 }
 
 /// Whether the thread may make its next move now, where it wants a variable.
-fn turn_of<P: Program>(core: &Core<P>, thread: u32) -> Turn
+fn turn_of<P: Program>(core: &Core<P>, thread: u32, wants: Wants) -> Turn
     requires stands { StandsForSome (P.meaning core.now.program) core.now }
     requires thread_in { thread < core.now.inputs.threads }
+    requires wanted { (threads : ℕ) (steps : List (Step P.Value))
+        → Stands (P.meaning core.now.program) threads steps core.now.master
+        → wants ≡ wanted (P.meaning core.now.program) steps thread }
     ensures { (s : Setting P.Value) (w : World P.Value)
         → StandsFor (P.meaning core.now.program) s w core.now
         → HasTurnBy s w thread result }
 {
-    match core.master.wants(&core.program, thread) {
+    match wants {
         Wants::Touch {
             number,
             var,
@@ -118,28 +119,23 @@ fn recorded_or(guide: &Guide, thread: u32, number: u64, given: Option<u64>) -> O
 /// What the thread's next move is told, if it asks: what is recorded, else the given answer, else the time or the next
 /// word of the generator.
 fn told<P: Program>(
-    program: &P,
-    master: &Master<P>,
+    wants: Wants,
     guide: &Guide,
     generator: &mut Pcg32,
     clock: u64,
     thread: u32,
     given: Option<u64>,
 ) -> Option<u64>
-    requires fits { FitsProgram (P.meaning program.now) (P.fits program.now)
-        value_of master.now.vars }
-    requires thread_in { thread < length master.now.threads }
     ensures tells { (s : Setting P.Value) (w : World P.Value)
-        → s.meaning ≡ P.meaning program.now → Sound s w → HasGuide w.followed w.past guide.now
-        → Stands s.meaning s.threads w.past master.now → w.clock ≡ clock
-        → generator.old ≡ generator_after s.seed w.drawn
+        → wants ≡ wanted s.meaning w.past thread → Sound s w → HasGuide w.followed w.past guide.now
+        → w.clock ≡ clock → generator.old ≡ generator_after s.seed w.drawn
         → (drawn : ℕ) × TellsHand s w thread given result drawn (thread_after w.past thread).hand
         × (generator.new ≡ generator_after s.seed drawn) }
     ensures asked { (s : Setting P.Value) (w : World P.Value)
-        → s.meaning ≡ P.meaning program.now → Stands s.meaning s.threads w.past master.now
+        → wants ≡ wanted s.meaning w.past thread
         → told_in s.meaning (thread_after w.past thread).hand (unwrap_or result 0) ≡ result }
 {
-    match master.wants(program, thread) {
+    match wants {
         Wants::Clock(number) => Some(recorded_or(guide, thread, number, given).unwrap_or(clock)),
         Wants::Draw(number) => match recorded_or(guide, thread, number, given) {
             Some(answer) => Some(answer),
@@ -272,10 +268,11 @@ pub fn make_move<P: Program>(
     ensures made { MakesNext (P.meaning core.old.program) thread given result.0 result.1
         core.old core.new }
 {
-    let turn = turn_of(core, thread);
-    let answer = told(
-        &core.program,
-        &core.master,
+    let next = core.master.next_move(&core.program, thread);
+    let wants = core.master.wants_by(&core.program, thread, next);
+    let turn = turn_of(core, thread, wants);
+    let answer = told::<P>(
+        wants,
         &core.guide,
         &mut core.generator,
         core.clock,
@@ -283,10 +280,11 @@ pub fn make_move<P: Program>(
         given,
     );
     let input = input_of(&core.inputs, &core.master, thread);
-    let stepped = core.master.step(
+    let stepped = core.master.make(
         core.alloc,
         &core.program,
         thread,
+        next,
         turn,
         answer.unwrap_or(0),
         input,

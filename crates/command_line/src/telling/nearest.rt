@@ -5,19 +5,27 @@ use std::rt::Files;
 /// The longest word that is taken for a misspelt command, in bytes.
 const LONGEST: usize = 10;
 
-/// The commands, and what stands behind each.
-const USAGE: [(&str, &str); 10] = [
-    ("run", "BOX CAPTURE SCRIPT RELEASED SCHEDULE"),
-    ("live", "BOX CAPTURE PLAN RELEASED SCHEDULE SCRIPT"),
-    ("drill", "BOX CAPTURE EVERY RELEASED SCHEDULE"),
-    ("trace", "BOX CAPTURE SCRIPT TABLE"),
-    ("picture", "BOX CAPTURE SCRIPT PICTURE"),
-    ("tap", "NAME [tap NAME] .. run .. or live .."),
-    ("play", "BOX CAPTURE SCHEDULE OUT"),
-    ("check", "BOX CAPTURE SCHEDULE RELEASED"),
-    ("make", "SEED N CAPTURE"),
-    ("watch", "CAPTURE SKIP QUOTA"),
+/// The commands.
+const COMMANDS: [&str; 11] = [
+    "run", "live", "drill", "trace", "picture", "chain", "tap", "play", "check", "make", "watch",
 ];
+
+/// What stands behind a command.
+fn words_behind(command: &str) -> &'static str {
+    match command {
+        "run" => "BOX CAPTURE SCRIPT RELEASED SCHEDULE",
+        "live" => "BOX CAPTURE PLAN RELEASED SCHEDULE SCRIPT",
+        "drill" => "BOX CAPTURE EVERY RELEASED SCHEDULE",
+        "trace" => "BOX CAPTURE SCRIPT TABLE",
+        "picture" => "BOX CAPTURE SCRIPT PICTURE",
+        "chain" => "BOX1 BOX2 CAPTURE SCRIPT MIDDLE RELEASED SCHEDULE1 SCHEDULE2",
+        "tap" => "NAME [tap NAME] .. run .. or live ..",
+        "play" => "BOX CAPTURE SCHEDULE OUT",
+        "check" => "BOX CAPTURE SCHEDULE RELEASED",
+        "make" => "SEED N CAPTURE",
+        _ => "CAPTURE SKIP QUOTA",
+    }
+}
 
 /// Tells how the command is called whose first word stands there, or the one that is nearest to it.
 pub fn tell_usage<R: AllocGlobal + Files + Eprint>(rt: &R, words: &[Text]) -> io::Result<()> {
@@ -25,13 +33,15 @@ pub fn tell_usage<R: AllocGlobal + Files + Eprint>(rt: &R, words: &[Text]) -> io
         return eprintln!(rt; "usage: ftmb COMMAND ..; ftmb --help tells the commands");
     };
     let word = word.as_str();
-    for (command, rest) in USAGE {
+    for command in COMMANDS {
         if command == word {
-            return eprintln!(rt; "usage: ftmb {command} {rest}");
+            let rest = words_behind(word);
+            return eprintln!(rt; "usage: ftmb {word} {rest}");
         }
     }
-    for (command, rest) in USAGE {
+    for command in COMMANDS {
         if is_near(word.as_bytes(), command.as_bytes()) {
+            let rest = words_behind(command);
             return eprintln!(rt; "no command {word}; usage: ftmb {command} {rest}");
         }
     }

@@ -1,6 +1,7 @@
 use Rattle.std.specs.Prelude.{IsTrue}
-use Rattle.input_files.specs.Answers.{SaysBox, SaysCapture, SaysPlan, SaysSchedule, SaysScript}
-use Rattle.input_files.proofs.OneAnswer.{one_answer, one_box, one_capture, one_plan, one_schedule, one_script}
+use Rattle.input_files.specs.Answers.{SaysBox, SaysCapture, SaysChain, SaysPlan, SaysSchedule, SaysScript}
+use Rattle.input_files.proofs.OneAnswer.{one_answer, one_box, one_capture, one_chain, one_plan, one_schedule}
+use Rattle.input_files.proofs.OneAnswer.{one_script}
 use Rattle.input_files.proofs.laws.each_file_has_one_answer.Goals as goal
 
 pub returns-clause-box_file : goal.returns-clause-box_file
@@ -11,6 +12,9 @@ returns-clause-capture c = λ healthy name shown a b. one_answer SaysCapture one
 
 pub returns-clause-script : goal.returns-clause-script
 returns-clause-script c = λ healthy name shown a b. one_answer SaysScript one_script (IsTrue healthy) name shown a b
+
+pub returns-clause-chain : goal.returns-clause-chain
+returns-clause-chain c = λ healthy name shown a b. one_answer SaysChain one_chain (IsTrue healthy) name shown a b
 
 pub returns-clause-schedule : goal.returns-clause-schedule
 returns-clause-schedule c =

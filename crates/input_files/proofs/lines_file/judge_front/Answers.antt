@@ -2,7 +2,7 @@ use Rattle.std.proofs.Common.{◌≡◌, ◌∙◌, List, ℕ, ap, subst, Ok, Er
 use Rattle.world_io.specs.declared.beginning.Front.{Front}
 use Rattle.input_files.specs.Answers.{SaysLines}
 use Rattle.input_files.specs.Texts.{IsFrontOf, whole_lines}
-use Rattle.input_files.proofs.Verdicts.{whole_file, cut_file, cut_file_refused}
+use Rattle.input_files.proofs.Verdicts.{whole_file, cut_file, cut_file_refused, lines_of_text}
 use Rattle.input_files.proofs.lines_file.judge_front.Goals as goal
 
 pub returns-in-All-clause-says : goal.returns-in-All-clause-says
@@ -27,3 +27,9 @@ returns-in-Err-clause-says g c = λ bytes is.
     cut_file_refused g.F.LineFile.form c.in-More.bytes bytes c.in-Err.error
     (subst (λ (text : List ℕ). SaysLines g.F.LineFile.form text (Err c.in-Err.error)) lines c.in-Err.ensures.says)
     (subst (λ (front : Front). IsFrontOf front bytes) c.in-More.is is)
+
+pub returns-in-All-clause-of_text : goal.returns-in-All-clause-of_text
+returns-in-All-clause-of_text g c =
+    lines_of_text g.F.LineFile.form c.in-All.bytes c.judge_lines.result
+    (subst (λ (text : List ℕ). SaysLines g.F.LineFile.form text c.judge_lines.result)
+    c.as_slice.ensures c.judge_lines.ensures.says)

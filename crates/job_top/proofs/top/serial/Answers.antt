@@ -5,6 +5,7 @@ use Rattle.job_commands.specs.Status.{IsRefusal, stage_of}
 use Rattle.job_commands.specs.Words.{asked_of, check_names, check_names_of, drill_names, drill_names_of, live_names}
 use Rattle.job_commands.specs.Words.{live_names_of, made_of, picture_names, picture_names_of, pictured_run}
 use Rattle.job_commands.specs.Words.{trace_names, trace_names_of}
+use Rattle.job_commands.specs.ChainWords.{chain_names, chain_names_of}
 use Rattle.job_commands.specs.Words.{make_names}
 use Rattle.job_commands.specs.Words.{names_of, play_names, play_names_of, run_names}
 use Rattle.job_commands.proofs.Outcomes.{made_completes, made_refuses, made_not_at_inputs}
@@ -12,6 +13,7 @@ use Rattle.job_commands.proofs.OneVerdict.{run_completes}
 use Rattle.job_commands.proofs.Plays.{play_completes}
 use Rattle.job_commands.proofs.Finds.{check_completes}
 use Rattle.job_commands.proofs.Others.{run_others, made_others, play_others, check_others}
+use Rattle.job_top.proofs.Chains.{chain_completes, chain_others}
 use Rattle.job_top.proofs.Drills.{drill_completes, drill_others}
 use Rattle.job_top.proofs.Lives.{not_lives}
 use Rattle.job_top.proofs.Pictured.{picture_others}
@@ -22,8 +24,8 @@ pub unreachable-requires : goal.unreachable-requires
 unreachable-requires g c =
     let words = c.args.words.now in
     not_lives (run_names words) (live_names words) (make_names words) (play_names words) (check_names words)
-    (drill_names words) (trace_names words) (picture_names words) (live_names_of c.in-Some-Live.field-0-0)
-    c.requires.no_rounds
+    (drill_names words) (trace_names words) (picture_names words) (chain_names words)
+    (live_names_of c.in-Some-Live.field-0-0) c.requires.no_rounds
     (c.in-Some-Live.ensures ∙ ap (λ z. Some (asked_of z)) c.in-Some-Live.field-0-is)
 
 pub returns-in-Some-Run-clause-done : goal.returns-in-Some-Run-clause-done
@@ -283,3 +285,40 @@ returns-in-Some-Picture-clause-opens_in_order g c =
 pub returns-in-Some-Picture-clause-opens_all : goal.returns-in-Some-Picture-clause-opens_all
 returns-in-Some-Picture-clause-opens_all g c done =
     rw (c.in-Some-Picture.ensures, c.in-Some-Picture.field-0-is) (c.picture.ensures.opens_all done)
+
+pub returns-in-Some-Chain-clause-done : goal.returns-in-Some-Chain-clause-done
+returns-in-Some-Chain-clause-done g c p q done =
+    rw (c.in-Some-Chain.ensures, c.in-Some-Chain.field-0-is) (c.chain.ensures.done p q done)
+
+pub returns-in-Some-Chain-clause-completes : goal.returns-in-Some-Chain-clause-completes
+returns-in-Some-Chain-clause-completes g c ok p q =
+    rw (c.in-Some-Chain.ensures, c.in-Some-Chain.field-0-is)
+    (λ accepted. chain_completes (g.W.World.healthy c.args.world.now) (chain_names_of c.in-Some-Chain.names)
+    (g.W.World.shows p c.args.world.now) ok accepted c.chain.result (c.chain.ensures.judged p q))
+
+pub returns-in-Some-Chain-clause-refused : goal.returns-in-Some-Chain-clause-refused
+returns-in-Some-Chain-clause-refused g c p q =
+    rw (c.in-Some-Chain.ensures, c.in-Some-Chain.field-0-is) (λ e. c.chain.ensures.refused p q e)
+
+pub returns-in-Some-Chain-clause-limit : goal.returns-in-Some-Chain-clause-limit
+returns-in-Some-Chain-clause-limit g c p q limit e =
+    rw (c.in-Some-Chain.ensures, c.in-Some-Chain.field-0-is) (λ stage. c.chain.ensures.limit p q limit e stage)
+
+pub returns-in-Some-Chain-clause-others : goal.returns-in-Some-Chain-clause-others
+returns-in-Some-Chain-clause-others g c p q =
+    rw (c.in-Some-Chain.ensures, c.in-Some-Chain.field-0-is) (chain_others (chain_names_of c.in-Some-Chain.names)
+    (g.W.World.shows p c.args.world.now) (g.W.World.shows p c.chain.new.world) (c.chain.ensures.in_order p q))
+
+pub returns-in-Some-Chain-clause-write_fault : goal.returns-in-Some-Chain-clause-write_fault
+returns-in-Some-Chain-clause-write_fault g c e = (c.chain.ensures.write_fault e).rose
+
+pub returns-in-Some-Chain-clause-never_fails : goal.returns-in-Some-Chain-clause-never_fails
+returns-in-Some-Chain-clause-never_fails g c ok e = (c.chain.ensures.write_fault e).not_healthy ok
+
+pub returns-in-Some-Chain-clause-opens_in_order : goal.returns-in-Some-Chain-clause-opens_in_order
+returns-in-Some-Chain-clause-opens_in_order g c =
+    rw (c.in-Some-Chain.ensures, c.in-Some-Chain.field-0-is) c.chain.ensures.opens_in_order
+
+pub returns-in-Some-Chain-clause-opens_all : goal.returns-in-Some-Chain-clause-opens_all
+returns-in-Some-Chain-clause-opens_all g c done =
+    rw (c.in-Some-Chain.ensures, c.in-Some-Chain.field-0-is) (c.chain.ensures.opens_all done)

@@ -1,21 +1,12 @@
-use Rattle.std.proofs.Common.{refl, subst, sym}
+use Rattle.std.proofs.Common.{refl, subst, sym, ◌∙◌}
 use Rattle.frame_intake.specs.Orders.{InMemory, orders_of}
 use Rattle.plan_script.specs.declared.plan.PlanLine.TheVariants as line
 use Rattle.plan_script.specs.Orders.{no_orders}
-use Rattle.recovery_world.specs.declared.event.Event.TheVariants as event
 use Rattle.live_command.specs.Going.{SameOrders}
-use Rattle.live_command.proofs.LinesGone.{if_given, line_lose, line_none, line_one, line_round, line_settle, same_limit}
-use Rattle.live_command.proofs.LinesGone.{same_take}
+use Rattle.live_command.proofs.LinesGone.{if_given, line_lose, line_none, line_round, line_settle, line_single}
+use Rattle.live_command.proofs.LinesGone.{same_limit, same_take}
 use Rattle.live_command.proofs.SettlingsGone.{none_given}
 use Rattle.live_command.proofs.lines.perform_line.Goals as goal
-
-pub returns-in-Feed-clause-told : goal.returns-in-Feed-clause-told
-returns-in-Feed-clause-told g c p honest s names events w asked before same apart is lived =
-    rw c.in-Feed.is (line_one _ s names (g.C.Clock.may c.args.clock.now) w asked c.args.standing.draws events
-    (orders_of c.args.orders.now) c.tell_one.new.lines c.tell_one.new.script before _ c.tell_one.result (line.Feed
-    c.in-Feed.count) (event.Feed c.in-Feed.count) c.args.standing.system (λ next end does kept. ((refl, does), kept))
-    (λ first begins. begins) same c.tell_one.ensures.given (c.tell_one.ensures.told p honest s names events w before
-    apart is lived))
 
 pub returns-in-Limit-clause-told : goal.returns-in-Limit-clause-told
 returns-in-Limit-clause-told g c p honest s names events w asked before same apart is lived =
@@ -54,50 +45,16 @@ returns-in-Round-clause-told g c p honest s names events w asked before same apa
     (c.race_if_up.ensures.told p honest s names events w asked before (subst (λ (o : InMemory). SameOrders asked
     (orders_of o)) (sym c.replace-asked.ensures.value) same) apart is lived))
 
-pub returns-in-Snap-clause-told : goal.returns-in-Snap-clause-told
-returns-in-Snap-clause-told g c p honest s names events w asked before same apart is lived =
-    rw c.in-Snap.is (line_one _ s names (g.C.Clock.may c.args.clock.now) w asked c.args.standing.draws events
-    (orders_of c.args.orders.now) c.tell_one-in-Snap.new.lines c.tell_one-in-Snap.new.script before _
-    c.tell_one-in-Snap.result line.Snap event.Snap c.args.standing.system (λ next end does kept. ((refl, does), kept))
-    (λ first begins. begins) same c.tell_one-in-Snap.ensures.given (c.tell_one-in-Snap.ensures.told p honest s names
-    events w before apart is lived))
-
-pub returns-in-Store-clause-told : goal.returns-in-Store-clause-told
-returns-in-Store-clause-told g c p honest s names events w asked before same apart is lived =
-    rw c.in-Store.is (line_one _ s names (g.C.Clock.may c.args.clock.now) w asked c.args.standing.draws events
-    (orders_of c.args.orders.now) c.tell_one-in-Store.new.lines c.tell_one-in-Store.new.script before _
-    c.tell_one-in-Store.result line.Store event.Store c.args.standing.system (λ next end does kept. (
-      (refl, does),
-      kept,
-    )) (λ first begins. begins) same c.tell_one-in-Store.ensures.given (c.tell_one-in-Store.ensures.told p honest s
-    names events w before apart is lived))
-
-pub returns-in-Crash-clause-told : goal.returns-in-Crash-clause-told
-returns-in-Crash-clause-told g c p honest s names events w asked before same apart is lived =
-    rw c.in-Crash.is (line_one _ s names (g.C.Clock.may c.args.clock.now) w asked c.args.standing.draws events
-    (orders_of c.args.orders.now) c.tell_one-in-Crash.new.lines c.tell_one-in-Crash.new.script before _
-    c.tell_one-in-Crash.result line.Crash event.Crash c.args.standing.system (λ next end does kept. (
-      (refl, does),
-      kept,
-    )) (λ first begins. begins) same c.tell_one-in-Crash.ensures.given (c.tell_one-in-Crash.ensures.told p honest s
-    names events w before apart is lived))
-
-pub returns-in-Recover-clause-told : goal.returns-in-Recover-clause-told
-returns-in-Recover-clause-told g c p honest s names events w asked before same apart is lived =
-    rw c.in-Recover.is (line_one _ s names (g.C.Clock.may c.args.clock.now) w asked c.args.standing.draws events
-    (orders_of c.args.orders.now) c.tell_one-in-Recover.new.lines c.tell_one-in-Recover.new.script before _
-    c.tell_one-in-Recover.result line.Recover event.Recover c.args.standing.system (λ next end does kept. (
-      (
-        refl,
-        does,
-      ),
-      kept,
-    )) (λ first begins. begins) same c.tell_one-in-Recover.ensures.given
-    (c.tell_one-in-Recover.ensures.told p honest s names events w before apart is lived))
-
 pub returns-in-Settle-clause-told : goal.returns-in-Settle-clause-told
 returns-in-Settle-clause-told g c p honest s names events w asked before same apart is lived =
     rw c.in-Settle.is (line_settle _ s names (g.C.Clock.may c.args.clock.now) w asked c.args.standing.draws events
     (orders_of c.none-in-Settle.result) c.settle.new.lines c.settle.new.script before _ c.settle.result
     (none_given (orders_of c.none-in-Settle.result) c.none-in-Settle.ensures.moves c.none-in-Settle.ensures.frames
     c.none-in-Settle.ensures.lost) (c.settle.ensures.told p honest s names events w before apart is lived))
+
+pub returns-in-Some-clause-told : goal.returns-in-Some-clause-told
+returns-in-Some-clause-told g c p honest s names events w asked before same apart is lived =
+    line_single _ s names (g.C.Clock.may c.args.clock.now) w asked c.args.standing.draws events
+    (orders_of c.args.orders.now) c.tell_one.new.lines c.tell_one.new.script before _ c.tell_one.result c.args.line
+    c.in-Some.event c.args.standing.system (sym c.event_of.ensures ∙ c.in-Some.is) same c.tell_one.ensures.given
+    (c.tell_one.ensures.told p honest s names events w before apart is lived)

@@ -12,10 +12,9 @@ use Rattle.thread_steps.proofs.HandLemmas.{tells_clock, tells_draw, tells_none}
 use Rattle.thread_steps.proofs.stepping.told.Goals as goal
 
 pub returns-in-Clock-clause-tells : goal.returns-in-Clock-clause-tells
-returns-in-Clock-clause-tells g c = λ s w is sound guides stands time generator.
-    let at = subst (λ q. Stands q s.threads w.past c.args.master.now) is stands in
+returns-in-Clock-clause-tells g c = λ s w is sound guides time generator.
     let wants =
-    ap (λ q. wanted q w.past c.args.thread) is ∙ sym (c.wants.ensures.wanted s.threads w.past at) ∙ c.in-Clock.is in
+    sym is ∙ c.in-Clock.is in
     let number = clock_number s.meaning w.past c.args.thread _ wants in
     let told =
     c.recorded_or.ensures
@@ -30,16 +29,14 @@ returns-in-Clock-clause-tells g c = λ s w is sound guides stands time generator
     )
 
 pub returns-in-Clock-clause-asked : goal.returns-in-Clock-clause-asked
-returns-in-Clock-clause-asked g c = λ s w is stands.
-    let at = subst (λ q. Stands q s.threads w.past c.args.master.now) is stands in
+returns-in-Clock-clause-asked g c = λ s w is.
     asked_clock s.meaning _ _ (asks_clock s.meaning w.past c.args.thread _
-    (ap (λ q. wanted q w.past c.args.thread) is ∙ sym (c.wants.ensures.wanted s.threads w.past at) ∙ c.in-Clock.is))
+    (sym is ∙ c.in-Clock.is))
 
 pub returns-in-Some-clause-tells : goal.returns-in-Some-clause-tells
-returns-in-Some-clause-tells g c = λ s w is sound guides stands time generator.
-    let at = subst (λ q. Stands q s.threads w.past c.args.master.now) is stands in
+returns-in-Some-clause-tells g c = λ s w is sound guides time generator.
     let wants =
-    ap (λ q. wanted q w.past c.args.thread) is ∙ sym (c.wants.ensures.wanted s.threads w.past at) ∙ c.in-Draw.is in
+    sym is ∙ c.in-Draw.is in
     let number = draw_number s.meaning w.past c.args.thread _ wants in
     let told =
     c.recorded_or-in-Draw.ensures
@@ -52,16 +49,14 @@ returns-in-Some-clause-tells g c = λ s w is sound guides stands time generator.
     )
 
 pub returns-in-Some-clause-asked : goal.returns-in-Some-clause-asked
-returns-in-Some-clause-asked g c = λ s w is stands.
-    let at = subst (λ q. Stands q s.threads w.past c.args.master.now) is stands in
+returns-in-Some-clause-asked g c = λ s w is.
     asked_draw s.meaning _ _ (asks_draw s.meaning w.past c.args.thread _
-    (ap (λ q. wanted q w.past c.args.thread) is ∙ sym (c.wants.ensures.wanted s.threads w.past at) ∙ c.in-Draw.is))
+    (sym is ∙ c.in-Draw.is))
 
 pub returns-in-None-clause-tells : goal.returns-in-None-clause-tells
-returns-in-None-clause-tells g c = λ s w is sound guides stands time generator.
-    let at = subst (λ q. Stands q s.threads w.past c.args.master.now) is stands in
+returns-in-None-clause-tells g c = λ s w is sound guides time generator.
     let wants =
-    ap (λ q. wanted q w.past c.args.thread) is ∙ sym (c.wants.ensures.wanted s.threads w.past at) ∙ c.in-Draw.is in
+    sym is ∙ c.in-Draw.is in
     let number = draw_number s.meaning w.past c.args.thread _ wants in
     let told =
     c.recorded_or-in-Draw.ensures
@@ -76,23 +71,18 @@ returns-in-None-clause-tells g c = λ s w is sound guides stands time generator.
     )
 
 pub returns-in-None-clause-asked : goal.returns-in-None-clause-asked
-returns-in-None-clause-asked g c = λ s w is stands.
-    let at = subst (λ q. Stands q s.threads w.past c.args.master.now) is stands in
+returns-in-None-clause-asked g c = λ s w is.
     asked_draw s.meaning _ _ (asks_draw s.meaning w.past c.args.thread _
-    (ap (λ q. wanted q w.past c.args.thread) is ∙ sym (c.wants.ensures.wanted s.threads w.past at) ∙ c.in-Draw.is))
+    (sym is ∙ c.in-Draw.is))
 
 pub returns-in_default : goal.returns-in_default
 returns-in_default g c = record {
-  tells = λ s w is sound guides stands time generator.
-      let at = subst (λ q. Stands q s.threads w.past c.args.master.now) is stands in
-      let same = c.wants.ensures.wanted s.threads w.past at ∙ sym (ap (λ q. wanted q w.past c.args.thread) is) in
-      let none = tells_none s w c.args.thread c.args.given (λ n e. c.in_default.not-Clock n (same ∙ e))
-      (λ n e. c.in_default.not-Draw n (same ∙ e)) in
+  tells = λ s w is sound guides time generator.
+      let none = tells_none s w c.args.thread c.args.given (λ n e. c.in_default.not-Clock n (is ∙ e))
+      (λ n e. c.in_default.not-Draw n (is ∙ e)) in
       (w.drawn, none.0, generator);
-  asked = λ s w is stands.
-      let at = subst (λ q. Stands q s.threads w.past c.args.master.now) is stands in
-      let same = c.wants.ensures.wanted s.threads w.past at ∙ sym (ap (λ q. wanted q w.past c.args.thread) is) in
-      let none = tells_none s w c.args.thread c.args.given (λ n e. c.in_default.not-Clock n (same ∙ e))
-      (λ n e. c.in_default.not-Draw n (same ∙ e)) in
+  asked = λ s w is.
+      let none = tells_none s w c.args.thread c.args.given (λ n e. c.in_default.not-Clock n (is ∙ e))
+      (λ n e. c.in_default.not-Draw n (is ∙ e)) in
       none.1 0;
 }

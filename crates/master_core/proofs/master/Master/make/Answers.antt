@@ -9,7 +9,7 @@ use Rattle.master_core.specs.Effects.{Played, DoneTake, fresh_var}
 use Rattle.master_core.proofs.FollowsLemmas.{take_follows}
 use Rattle.master_core.proofs.AnswerLemmas.{Answers, played_answers, played_follows, hand_is, no_hand, hand_there}
 use Rattle.master_core.proofs.AnswerLemmas.{turns_of, falls_of, take_begins, take_turns}
-use Rattle.master_core.proofs.master.Master.step.Goals as goal
+use Rattle.master_core.proofs.master.Master.make.Goals as goal
 
 pub unwrap-packet-requires : goal.unwrap-packet-requires
 unwrap-packet-requires g c =

@@ -1,0 +1,319 @@
+-- The phase of a mapping after a step is the one that it had, or the one after the packet in hand.
+use Rattle.std.proofs.Common.{◌≡◌, ◌≢◌, ℕ, ◌+◌, ◌-◌, ◌*◌, ◌<◌, Bool, true, false, List, [], ◌∷◌, ◌++◌, refl, sym, ap}
+use Rattle.std.proofs.Common.{◌∙◌}
+use Rattle.std.proofs.Common.{subst, ◌⊎◌, inl, inr, Option, Some, None}
+use Rattle.std.specs.Prelude.{cond, nat_eq, ◌==◌, if◌then◌else◌, Ok}
+use Rattle.plain_text.specs.declared.packet.Packet.{Packet}
+use Rattle.entry_order.proofs.Order.{is_or}
+use Rattle.packet_headers.specs.declared.flow.Flow.{Flow}
+use Rattle.packet_headers.specs.Fields.{AreBytes}
+use Rattle.packet_headers.specs.View.{viewed}
+use Rattle.plain_machine.specs.declared.local.Move.TheVariants.{Access}
+use Rattle.plain_machine.specs.Machine.{Hand, Thread, Effect, Moves, held_move}
+use Rattle.plain_machine.specs.History.{Act, Step, act_of, left_by, thread_after, value_after, IsHistory}
+use Rattle.plain_machine.proofs.Histories.{not_eq, is_eq}
+use Rattle.plain_machine.proofs.Bounds.{values_fit}
+use Rattle.nat_tables.specs.declared.entries.Endpoint.{Endpoint}
+use Rattle.nat_tables.specs.declared.slot.Slot.{Slot}
+use Rattle.nat_tables.specs.declared.phase.Phase.{Phase}
+use Rattle.nat_tables.specs.declared.phase.Phase.TheVariants.{Plain}
+use Rattle.nat_tables.specs.declared.phase.Segment.{Segment}
+use Rattle.nat_tables.specs.Keys.{same_endpoint}
+use Rattle.nat_tables.specs.Phases.{phase_after}
+use Rattle.nat_tables.specs.Forwards.{Forwards, slot_of, is_idle, first_idle, refreshed, refresh, marked, mark, without}
+use Rattle.nat_tables.specs.Forwards.{found_there, found, bound, Misses, AreMappings}
+use Rattle.nat_tables.proofs.Counting.{same_is}
+use Rattle.flow_boxes.specs.Flows.{source_of}
+use Rattle.flow_boxes.proofs.Fitting.{same_self}
+use Rattle.flow_boxes.proofs.HeldInputs.{IsHeld, run_holds}
+use Rattle.nat_box.specs.declared.place.Place.{Place}
+use Rattle.nat_box.specs.declared.place.Noted.{Noted}
+use Rattle.nat_box.specs.declared.value.NatValue.{NatValue}
+use Rattle.nat_box.specs.declared.value.NatValue.TheVariants.{Dropped, Free, Mapped, Taken}
+use Rattle.nat_box.specs.Places.{noted}
+use Rattle.nat_box.specs.Nat.{Settings, segment_of, segment_told, touched, followed_by, followed, nat_meaning, MayMap}
+use Rattle.nat_box.specs.Nat.{Fits}
+use Rattle.nat_box.specs.Lawful.{AreSettings, nat_lawful}
+use Rattle.nat_box.specs.Sentences.{Has, mappings_in}
+use Rattle.nat_box.proofs.Making.{comes_to}
+use Rattle.nat_runs.specs.Met.{Met, met_of}
+use Rattle.nat_runs.specs.Following.{phase_then, HadPhase, IsFollowedOn, HostsFollow}
+use Rattle.nat_runs.proofs.TableEntries.{missed, without_was, without_idle_was}
+use Rattle.nat_runs.proofs.ThreadMoves.{TouchKind, finds, unbinds_freed, gives_freed, reserves, binds, finds_or_binds}
+use Rattle.nat_runs.proofs.ThreadMoves.{unbinds_lost, gives_lost, counts, touch_kind, at, touched_below, by_move}
+use Rattle.nat_runs.proofs.Knowing.{IsBase, IsOnWay, KnownAt, Known, run_known}
+
+-- Before the segment is noted: an entry was there, or it is of the packet's endpoint and has the phase of its mapping.
+
+abbrev IsOld : Endpoint → Forwards → Endpoint × Slot → Type 0
+IsOld key es e = Has es e ⊎ ((key ≡ e.0) × HadPhase (Mapped es) e.0 e.1.phase)
+
+refresh_old : (key : Endpoint) (now : ℕ) (es : Forwards) (e : Endpoint × Slot) → Has (refresh key now es) e
+    → IsOld key es e
+refresh_old key now [] e h = absurd h
+refresh_old key now (x ∷ es) e h = by (same_endpoint key x.0) refl h (refresh_old key now es e)
+  where
+    on : IsOld key es e → IsOld key (x ∷ es) e
+    on (inl k) = inl (inr k)
+    on (inr (k, inl old)) = inr (k, inl (old.0, inr old.1, old.2))
+    on (inr (k, inr new)) = inr (k, inr new)
+
+    by : (b : Bool) → same_endpoint key x.0 ≡ b
+        → Has (if b then (x.0, refreshed now x.1) ∷ es else x ∷ refresh key now es) e
+        → (Has (refresh key now es) e → IsOld key es e) → IsOld key (x ∷ es) e
+    by true q (inl p) rest = inr (
+      same_is key x.0 q ∙ ap (λ (z : Endpoint × Slot). z.0) p,
+      inl (
+        x.1,
+        inl (ap (λ (z : Endpoint × Slot). (z.0, x.1)) p),
+        ap (λ (z : Endpoint × Slot). z.1.phase) p,
+      ),
+    )
+    by true q (inr h) rest = inl (inr h)
+    by false q (inl p) rest = inl (inl p)
+    by false q (inr h) rest = on (rest h)
+
+append_old : (key : Endpoint) (slot : Slot) (es : Forwards) (e : Endpoint × Slot) → slot.phase ≡ Plain
+    → Has (es ++ (key, slot) ∷ []) e → Has es e ⊎ ((key ≡ e.0) × (e.1.phase ≡ Plain))
+append_old key slot [] e plain (inl p) =
+    inr (ap (λ (z : Endpoint × Slot). z.0) p, ap (λ (z : Endpoint × Slot). z.1.phase) (sym p) ∙ plain)
+append_old key slot [] e plain (inr h) = absurd h
+append_old key slot (x ∷ es) e plain (inl p) = inl (inl p)
+append_old key slot (x ∷ es) e plain (inr h) = on (append_old key slot es e plain h)
+  where
+    on : Has es e ⊎ ((key ≡ e.0) × (e.1.phase ≡ Plain)) → Has (x ∷ es) e ⊎ ((key ≡ e.0) × (e.1.phase ≡ Plain))
+    on (inl k) = inl (inr k)
+    on (inr k) = inr k
+
+there_old : (key : Endpoint) (now : ℕ) (es : Forwards) (slot : Slot) (idle : Bool) (e : Endpoint × Slot)
+    → Has (found_there key now es slot idle).1 e → IsOld key es e
+there_old key now es slot true e h = inl (without_was key es e h)
+there_old key now es slot false e h = refresh_old key now es e h
+
+found_old : (key : Endpoint) (now : ℕ) (es : Forwards) (a : Option Slot) (b : Option (Endpoint × Slot))
+    (e : Endpoint × Slot) → Has (found key now es a b).1 e → IsOld key es e
+found_old key now es (Some slot) b e h = there_old key now es slot (is_idle now (key, slot)) e h
+found_old key now es None (Some gone) e h = inl (without_idle_was now es e h)
+found_old key now es None None e h = inl h
+
+bound_old : (key : Endpoint) (port now : ℕ) (es : Forwards) (a : Option Slot) (e : Endpoint × Slot)
+    → Has (bound key port now es a).1 e → IsOld key es e
+bound_old key port now es (Some slot) e h = refresh_old key now es e h
+bound_old key port now es None e h =
+    on (append_old key (record { port = port; last = now; phase = Plain }) es e refl h)
+  where
+    on : Has es e ⊎ ((key ≡ e.0) × (e.1.phase ≡ Plain)) → IsOld key es e
+    on (inl k) = inl k
+    on (inr k) = inr (k.0, inr k.1)
+
+-- After it was noted: an entry is of another endpoint and was there, or it has the phase after the segment.
+
+abbrev IsMarked : Endpoint → ℕ → Segment → Forwards → Endpoint × Slot → Type 0
+IsMarked own seconds segment es e =
+    (Has es e × (own ≡ e.0 → ⊥))
+    ⊎ ((own ≡ e.0) × (old : Slot) × Has es (e.0, old) × (e.1.phase ≡ phase_after seconds segment old.phase))
+
+module _ (May : Endpoint → Slot → Type 0) (own : Endpoint) (seconds : ℕ) (segment : Segment) where
+  is_marked : (es : Forwards) (e : Endpoint × Slot) → AreMappings May (mark own seconds segment es)
+      → Has (mark own seconds segment es) e → IsMarked own seconds segment es e
+  is_marked [] e all h = absurd h
+  is_marked (x ∷ es) e all h = by (same_endpoint own x.0) refl all h (is_marked es e)
+    where
+      on : IsMarked own seconds segment es e → IsMarked own seconds segment (x ∷ es) e
+      on (inl k) = inl (inr k.0, k.1)
+      on (inr k) = inr (k.0, k.1, inr k.2, k.3)
+
+      other : own ≡ x.0 → Misses es x.0 → Has es e → own ≡ e.0 → ⊥
+      other q misses h same =
+          let here : same_endpoint e.0 x.0 ≡ false = missed es x.0 e misses h in
+          let there : same_endpoint e.0 x.0 ≡ true =
+          subst (λ (k : Endpoint). same_endpoint e.0 k ≡ true) (sym same ∙ q) (same_self e.0) in
+          absurd (cc)
+
+      by : (b : Bool) → same_endpoint own x.0 ≡ b
+          → AreMappings May (if b then (x.0, marked seconds segment x.1) ∷ es else x ∷ mark own seconds segment es)
+          → Has (if b then (x.0, marked seconds segment x.1) ∷ es else x ∷ mark own seconds segment es) e
+          → (AreMappings May (mark own seconds segment es) → Has (mark own seconds segment es) e
+          → IsMarked own seconds segment es e) → IsMarked own seconds segment (x ∷ es) e
+      by true q all (inl p) rest = inr (
+        same_is own x.0 q ∙ ap (λ (z : Endpoint × Slot). z.0) p,
+        x.1,
+        inl (ap (λ (z : Endpoint × Slot). (z.0, x.1)) p),
+        ap (λ (z : Endpoint × Slot). z.1.phase) (sym p),
+      )
+      by true q all (inr h) rest = inl (inr h, other (same_is own x.0 q) all.1 h)
+      by false q all (inl p) rest = inl (
+        inl p,
+        λ same.
+            let there : same_endpoint own x.0 ≡ true =
+            subst (λ (k : Endpoint). same_endpoint own k ≡ true) (same ∙ ap (λ (z : Endpoint × Slot). z.0) (sym p))
+            (same_self own) in
+            absurd (cc),
+      )
+      by false q all (inr h) rest = on (rest all.2 h)
+
+-- Both together
+
+abbrev phase_by : Option ℕ → ℕ → Segment → Phase → Phase
+phase_by None protocol segment phase = phase
+phase_by (Some seconds) protocol segment phase = if protocol == 6 then phase_after seconds segment phase else phase
+
+phase_same : (c : Option ℕ) (protocol flags : ℕ) (old : Phase)
+    → phase_by c protocol (segment_told c flags) old ≡ phase_then c protocol flags old
+phase_same None protocol flags old = refl
+phase_same (Some seconds) protocol flags old = refl
+
+abbrev IsNow : Option ℕ → Noted → Forwards → Endpoint × Slot → Type 0
+IsNow c n es e =
+    Has es e
+    ⊎ ((n.source ≡ e.0) × (old : Phase) × HadPhase (Mapped es) e.0 old
+    × (e.1.phase ≡ phase_by c n.source.protocol n.segment old))
+
+followed_now : (May : Endpoint → Slot → Type 0) (c : Option ℕ) (n : Noted) (es after : Forwards) (e : Endpoint × Slot)
+    → AreMappings May (followed_by c n after) → ((x : Endpoint × Slot) → Has after x → IsOld n.source es x)
+    → Has (followed_by c n after) e → IsNow c n es e
+followed_now May None n es after e all old h = on (old e h)
+  where
+    on : IsOld n.source es e → IsNow None n es e
+    on (inl k) = inl k
+    on (inr (k, had)) = inr (k, e.1.phase, had, refl)
+followed_now May (Some seconds) n es after e all old h = by (n.source.protocol == 6) refl all h
+  where
+    by : (b : Bool) → (n.source.protocol == 6) ≡ b
+        → AreMappings May (if b then mark n.source seconds n.segment after else after)
+        → Has (if b then mark n.source seconds n.segment after else after) e → IsNow (Some seconds) n es e
+    by false q all h = on (old e h)
+      where
+        on : IsOld n.source es e → IsNow (Some seconds) n es e
+        on (inl k) = inl k
+        on (inr (k, had)) = inr (k, e.1.phase, had, rw q refl)
+    by true q all h = on (is_marked May n.source seconds n.segment after e all h)
+      where
+        apart : (n.source ≡ e.0 → ⊥) → IsOld n.source es e → IsNow (Some seconds) n es e
+        apart other (inl k) = inl k
+        apart other (inr k) = absurd (other k.0)
+
+        had_of : (slot : Slot) → IsOld n.source es (e.0, slot) → HadPhase (Mapped es) e.0 slot.phase
+        had_of slot (inl k) = inl (slot, k, refl)
+        had_of slot (inr k) = k.1
+
+        on : IsMarked n.source seconds n.segment after e → IsNow (Some seconds) n es e
+        on (inl k) = apart k.1 (old e k.0)
+        on (inr (k, slot, there, phase)) = inr (k, slot.phase, had_of slot (old (e.0, slot) there), rw q phase)
+
+-- Of a touch
+
+module _ (s : Settings) (m : Met) (p : Packet) (e : Endpoint × Slot) where
+  abbrev Now : NatValue → Type 0
+  Now x = Has (mappings_in x) e ⊎ (AreBytes p.bytes → IsFollowedOn s x e.0 e.1.phase p)
+
+  now_of : (n : Noted) (es : Forwards) → IsOnWay s m p n → IsNow s.closing n es e → Now (Mapped es)
+  now_of n es k (inl h) = inl h
+  now_of n es k (inr (q, old, had, phase)) =
+      inr (λ bytes. (
+        k.0.flow,
+        k.0.seen,
+        sym (k.0.source bytes) ∙ q,
+        old,
+        had,
+        phase
+            ∙ ap (λ (g : Segment). phase_by s.closing n.source.protocol g old) (k.0.segment bytes)
+            ∙ phase_same s.closing n.source.protocol k.0.flow.flags old
+            ∙ ap (λ (key : Endpoint). phase_then s.closing key.protocol k.0.flow.flags old) q,
+      ))
+
+  touch_now : (v : ℕ) (place : Place) (x : NatValue) (n : Noted) → TouchKind place x
+      → Fits s v (followed s n (touched place x n).0) → KnownAt s m p place n
+      → Has (mappings_in (followed s n (touched place x n).0)) e → Now x
+  touch_now v _ _ n (finds es) fits k h =
+      let a : Option Slot = slot_of n.source es in
+      let b : Option (Endpoint × Slot) = first_idle n.time es in
+      now_of n es k (followed_now (MayMap s v) s.closing n es (found n.source n.time es a b).1 e fits.2
+      (λ x there. found_old n.source n.time es a b x there) h)
+  touch_now v _ _ n (unbinds_freed bs) fits k h = absurd h
+  touch_now v _ _ n (gives_freed pool) fits k h = absurd h
+  touch_now v _ _ n (reserves pool) fits k h = absurd h
+  touch_now v _ _ n (binds bs) fits k h = absurd h
+  touch_now v _ _ n (finds_or_binds es) fits k h =
+      let a : Option Slot = slot_of n.source es in
+      now_of n es k (followed_now (MayMap s v) s.closing n es (bound n.source n.port n.time es a).1 e fits.2
+      (λ x there. bound_old n.source n.port n.time es a x there) h)
+  touch_now v _ _ n (unbinds_lost bs) fits k h = absurd h
+  touch_now v _ _ n (gives_lost pool) fits k h = absurd h
+  touch_now v _ _ n (counts d) fits k h = absurd h
+
+-- Of a step
+
+module _ (s : Settings) (is : AreSettings s) (packets : List Packet) (value : ℕ → NatValue) (t : ℕ)
+    (earlier : List (Step NatValue)) (taken taken_then : ℕ)
+    (fits : (v : ℕ) → v < 2 + 2 * s.shards → Fits s v (value v)) (m : Met) (v : ℕ) (e : Endpoint × Slot) where
+  abbrev Follows : Option Hand → Type 0
+  Follows before =
+      Has (mappings_in (value v)) e
+      ⊎ ((h : Hand) × (before ≡ Some h)
+      × (AreBytes h.packet.bytes → IsFollowedOn s (value v) e.0 e.1.phase h.packet))
+
+  abbrev Keeps : Option Hand → Option Hand → Effect NatValue → Type 0
+  Keeps before after d =
+      Known s m before → Has (mappings_in (left_by v (act_of t earlier taken_then d) (value v))) e → Follows before
+
+  at_touch : (h : Hand) (w : ℕ) → comes_to s h (Access w) → Known s m (Some h)
+      → Has (mappings_in
+      (cond (nat_eq w v) (followed s (noted h.place) (touched (at h) (value w) (noted h.place)).0) (value v))) e
+      → Follows (Some h)
+  at_touch h w move k there = by (is_or w v)
+    where
+      left : NatValue
+      left = followed s (noted h.place) (touched (at h) (value w) (noted h.place)).0
+
+      as_hand : Now s m h.packet e (value w) → w ≡ v → Follows (Some h)
+      as_hand (inl a) q = inl (subst (λ (u : ℕ). Has (mappings_in (value u)) e) q a)
+      as_hand (inr a) q = inr (
+        h,
+        refl,
+        subst (λ (u : ℕ). AreBytes h.packet.bytes → IsFollowedOn s (value u) e.0 e.1.phase h.packet) q a,
+      )
+
+      by : (w ≡ v) ⊎ (w ≢ v) → Follows (Some h)
+      by (inl q) =
+          let below = touched_below s is h w move in
+          let kind = touch_kind s is.some (noted h.place) w (value w) (fits w below) (at h) move in
+          let now : Has (mappings_in left) e =
+          subst (λ (b : Bool). Has (mappings_in (cond b left (value v))) e) (is_eq w v q) there in
+          let fit : Fits s w left = (nat_lawful s is).touch_fits w (value w) h.place move (fits w below) in
+          as_hand (touch_now s m h.packet e w (at h) (value w) (noted h.place) kind fit k now) q
+      by (inr q) = inl (subst (λ (b : Bool). Has (mappings_in (cond b left (value v))) e) (not_eq w v q) there)
+
+  move_follows : (after : Thread) (d : Effect NatValue) (hand : Option Hand) (a : Option ℕ)
+      → held_move (nat_meaning s) packets value taken a hand ≡ Moves after d → Keeps hand after.hand d
+  move_follows after d hand a move =
+      by_move s packets value taken Keeps (λ p input k h. inl h) (λ h w c k there. at_touch h w c k there)
+      (λ h w c k there. inl there) (λ h x c k there. inl there) (λ h x c k there. inl there)
+      (λ h c k there. inl there) (λ h c k there. inl there) after d hand a move
+
+pub hosts_follow : HostsFollow
+hosts_follow s threads inputs x earlier v key slot is bytes h there =
+    let fits = values_fit (nat_meaning s) (Fits s) (nat_lawful s is) inputs threads earlier h.1 in
+    let m : Met = met_of s x.thread earlier in
+    let value : ℕ → NatValue = value_after (nat_meaning s) earlier in
+    let left : Has (mappings_in (left_by v (act_of x.thread earlier x.after.taken h.0.2) (value v))) (key, slot) =
+    subst (λ (y : Act NatValue). Has (mappings_in (left_by v y (value v))) (key, slot)) h.0.4 there in
+    by (move_follows s is (inputs x.thread) value x.thread earlier old.taken x.after.taken fits m v (key, slot) x.after
+    h.0.2 old.hand h.0.1 h.0.3 (run_known s threads inputs earlier is h.1 x.thread) left)
+  where
+    old : Thread
+    old = thread_after earlier x.thread
+
+    by : Has (mappings_in (value_after (nat_meaning s) earlier v)) (key, slot)
+        ⊎ ((g : Hand) × (old.hand ≡ Some g)
+        × (AreBytes g.packet.bytes
+        → IsFollowedOn s (value_after (nat_meaning s) earlier v) key slot.phase g.packet))
+        → Has (mappings_in (value_after (nat_meaning s) earlier v)) (key, slot)
+        ⊎ ((g : Hand) × (old.hand ≡ Some g)
+        × IsFollowedOn s (value_after (nat_meaning s) earlier v) key slot.phase g.packet)
+    by (inl a) = inl a
+    by (inr a) =
+        let held : IsHeld (inputs x.thread) old.taken (Some a.0) =
+        subst (IsHeld (inputs x.thread) old.taken) a.1
+        (run_holds (nat_meaning s) threads inputs earlier h.1 x.thread) in
+        inr (a.0, a.1, a.2 (bytes x.thread (old.taken - 1) a.0.packet held.1))

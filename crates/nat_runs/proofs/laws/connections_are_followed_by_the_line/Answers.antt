@@ -1,0 +1,19 @@
+use Rattle.nat_runs.proofs.Following.{followed_by_the_line, none_followed_without_it, touches_as_before}
+use Rattle.nat_runs.proofs.Following.{begins_as_before}
+use Rattle.nat_runs.proofs.Phasing.{hosts_follow}
+use Rattle.nat_runs.proofs.laws.connections_are_followed_by_the_line.Goals as goal
+
+pub returns-clause-by_the_line : goal.returns-clause-by_the_line
+returns-clause-by_the_line c = followed_by_the_line
+
+pub returns-clause-none_without_it : goal.returns-clause-none_without_it
+returns-clause-none_without_it c = none_followed_without_it
+
+pub returns-clause-touches : goal.returns-clause-touches
+returns-clause-touches c = touches_as_before
+
+pub returns-clause-begins : goal.returns-clause-begins
+returns-clause-begins c = begins_as_before
+
+pub returns-clause-hosts : goal.returns-clause-hosts
+returns-clause-hosts c = hosts_follow

@@ -1,0 +1,81 @@
+-- Which connections are followed: where the settings have a number of seconds those of TCP, and each of their mappings
+-- has this number; else none, and each touch is that of the table of moves. And how a packet changes a mapping's phase.
+use Rattle.std.specs.Prelude.{◌≡◌, ℕ, ◌+◌, ◌*◌, ◌<◌, ◌⊎◌, ◌==◌, if◌then◌else◌, List, ◌∷◌, Option, Some}
+use Rattle.std.specs.Prelude.{None, Ok}
+use Rattle.plain_text.specs.declared.packet.Packet.{Packet}
+use Rattle.packet_headers.specs.declared.flow.Flow.{Flow}
+use Rattle.plain_machine.specs.declared.local.Local.{Local}
+use Rattle.packet_headers.specs.View.{viewed}
+use Rattle.plain_machine.specs.Machine.{Hand}
+use Rattle.plain_machine.specs.History.{Step, thread_after, value_after, IsHistory}
+use Rattle.nat_tables.specs.declared.entries.Endpoint.{Endpoint}
+use Rattle.nat_tables.specs.declared.slot.Slot.{Slot}
+use Rattle.nat_tables.specs.declared.phase.Phase.{Phase}
+use Rattle.nat_tables.specs.declared.phase.Phase.TheVariants.{Plain, Opening, Established, Closing}
+use Rattle.nat_tables.specs.declared.phase.Segment.TheVariants.{Silent}
+use Rattle.nat_tables.specs.Phases.{phase_after}
+use Rattle.flow_boxes.specs.Flows.{source_of, HaveBytes}
+use Rattle.nat_box.specs.declared.value.NatValue.{NatValue}
+use Rattle.nat_box.specs.Places.{place_numbered, noted}
+use Rattle.nat_box.specs.Nat.{Settings, segment_of, begun, touched, local_at, nat_meaning}
+use Rattle.nat_box.specs.Lawful.{AreSettings}
+use Rattle.nat_box.specs.Sentences.{Has, mappings_in, IsMapping}
+
+-- TCP is protocol 6.
+abbrev pub IsFollowedBy : Option ℕ → ℕ → Phase → Type 0
+IsFollowedBy closing protocol Plain = Unit {0}
+IsFollowedBy closing protocol (Opening seconds) = (closing ≡ Some seconds) × (protocol ≡ 6)
+IsFollowedBy closing protocol Established = (seconds : ℕ) × (closing ≡ Some seconds) × (protocol ≡ 6)
+IsFollowedBy closing protocol (Closing seconds) = (closing ≡ Some seconds) × (protocol ≡ 6)
+
+-- each mapping after each move of each run
+abbrev pub FollowedByTheLine : Type 0
+FollowedByTheLine =
+    (s : Settings) (threads : ℕ) (inputs : ℕ → List Packet) (steps : List (Step NatValue)) (v : ℕ) (key : Endpoint)
+    (slot : Slot) → AreSettings s → IsHistory (nat_meaning s) inputs threads steps
+    → IsMapping s (value_after (nat_meaning s) steps) v (key, slot) → IsFollowedBy s.closing key.protocol slot.phase
+
+abbrev pub NoneFollowedWithoutIt : Type 0
+NoneFollowedWithoutIt =
+    (s : Settings) (threads : ℕ) (inputs : ℕ → List Packet) (steps : List (Step NatValue)) (v : ℕ) (key : Endpoint)
+    (slot : Slot) → AreSettings s → IsHistory (nat_meaning s) inputs threads steps → s.closing ≡ None
+    → IsMapping s (value_after (nat_meaning s) steps) v (key, slot) → slot.phase ≡ Plain
+
+-- and then each touch is the one of the table of moves alone, and a packet begins with no segment noted
+abbrev pub TouchesAsBefore : Type 0
+TouchesAsBefore =
+    (s : Settings) → s.closing ≡ None → (v : ℕ) (x : NatValue) (l : Local)
+    → (nat_meaning s).touch v x l
+    ≡ (let r = touched (place_numbered l.at) x (noted l) in (r.0, local_at r.1))
+
+abbrev pub BeginsAsBefore : Type 0
+BeginsAsBefore = (s : Settings) → s.closing ≡ None → (flow : Flow) → (begun s (Ok flow)).noted.segment ≡ Silent
+
+-- What a packet of an endpoint makes of the phase of its mapping, by its control bits, where its connection is followed
+
+abbrev pub phase_then : Option ℕ → ℕ → ℕ → Phase → Phase
+phase_then None protocol flags phase = phase
+phase_then (Some seconds) protocol flags phase =
+    if protocol == 6 then phase_after seconds (segment_of flags) phase else phase
+
+-- the phase of the endpoint's mapping, or that of a new one
+abbrev pub HadPhase : NatValue → Endpoint → Phase → Type 0
+HadPhase value key phase =
+    ((old : Slot) × Has (mappings_in value) (key, old) × (old.phase ≡ phase)) ⊎ (phase ≡ Plain)
+
+abbrev pub IsFollowedOn : Settings → NatValue → Endpoint → Phase → Packet → Type 0
+IsFollowedOn s value key phase p =
+    (flow : Flow) × (viewed p.bytes p.original ≡ Ok flow) × (source_of flow ≡ key) × (old : Phase)
+    × HadPhase value key old × (phase ≡ phase_then s.closing key.protocol flow.flags old)
+
+-- Each mapping that is there after a step was there before it, the same, or the packet in hand comes from its endpoint,
+-- and its phase is the one after this packet.
+abbrev pub HostsFollow : Type 0
+HostsFollow =
+    (s : Settings) (threads : ℕ) (inputs : ℕ → List Packet) (x : Step NatValue) (earlier : List (Step NatValue)) (v : ℕ)
+    (key : Endpoint) (slot : Slot) → AreSettings s → HaveBytes inputs
+    → IsHistory (nat_meaning s) inputs threads (x ∷ earlier)
+    → Has (mappings_in (value_after (nat_meaning s) (x ∷ earlier) v)) (key, slot)
+    → Has (mappings_in (value_after (nat_meaning s) earlier v)) (key, slot)
+    ⊎ ((h : Hand) × ((thread_after earlier x.thread).hand ≡ Some h)
+    × IsFollowedOn s (value_after (nat_meaning s) earlier v) key slot.phase h.packet)

@@ -1,0 +1,155 @@
+-- An overview is 1300 wide, and nothing in it reaches further to the right.
+use Rattle.std.proofs.Common.{◌≡◌, ℕ, zero, suc, ◌+◌, ◌-◌, ◌*◌, ◌/◌, ◌≤◌, Bool, true, false, List, [], ◌∷◌, ◌++◌}
+use Rattle.std.proofs.Common.{◌<◌, ap, arith, length-append}
+use Rattle.std.specs.Prelude.{All, max, min, if◌then◌else◌, ◌==◌, length, codes, decimal, None}
+use Rattle.std.proofs.lemmas.List.Elements.{All-append, All-cons, All-nil}
+use Rattle.std.proofs.lemmas.Fmt.{length-decimal-le}
+use Rattle.svg_text.specs.declared.class.Class.{Class}
+use Rattle.svg_text.specs.declared.class.Class.TheVariants as class
+use Rattle.svg_text.specs.declared.drawing.Element.{Element}
+use Rattle.svg_text.specs.declared.drawing.Shape.{Shape}
+use Rattle.svg_text.specs.declared.drawing.Shape.TheVariants as shape
+use Rattle.run_drawing.specs.declared.note.Note.{Note}
+use Rattle.run_drawing.specs.declared.samples.Sample.{Sample}
+use Rattle.run_drawing.specs.declared.samples.Count.{Count}
+use Rattle.run_drawing.specs.declared.samples.Count.TheVariants as count
+use Rattle.run_drawing.specs.declared.samples.Slice.{Slice}
+use Rattle.run_drawing.specs.Overview.{axis, axis_elements, bar_key, chart, curve, curve_keys, curves, epoch_line}
+use Rattle.run_drawing.specs.Overview.{epochs_from, key_of, line_key, most_from, other_keys, overview, points_from}
+use Rattle.run_drawing.specs.Overview.{samples_of}
+use Rattle.run_drawing.specs.Picture.{is_small, wide_of}
+use Rattle.run_drawing.specs.Places.{columns, left}
+use Rattle.run_drawing.specs.Promises.{furthest, reach}
+use Rattle.run_drawing.specs.Scales.{across, floor_of}
+use Rattle.run_drawing.specs.Slices.{bar_of, bars_of, floor_elements, floor_line, floors_from, floors_of, most_moves}
+use Rattle.run_drawing.specs.Slices.{slices_of, word_at}
+
+pub overview_wide : (notes : List Note) → is_small notes ≡ false → wide_of notes ≡ 1300
+overview_wide notes large = ap (λ (b : Bool). if b then max 1300 (left (columns 0 notes) + 40) else 1300) large
+
+abbrev Fits : Element → Type 0
+Fits e = reach e.shape ≤ 1300
+
+one_fits : (e : Element) → Fits e → All Fits (e ∷ [])
+one_fits e fits = All-cons Fits e [] fits (All-nil Fits)
+
+two_fit : (a b : Element) → Fits a → Fits b → All Fits (a ∷ b ∷ [])
+two_fit a b one two = All-cons Fits a (b ∷ []) one (one_fits b two)
+
+capped : (n : ℕ) → 120 + min n 1000 ≤ 1300
+capped n = omega arith
+
+across_low : (many i : ℕ) → across many i ≤ 1300
+across_low many i = capped (min i 1000000000 * 1000 / max 1 many)
+
+max_low : (a b : ℕ) → a ≤ 1300 → b ≤ 1300 → max a b ≤ 1300
+max_low a b one two = omega (arith, one, two)
+
+points_low : (c : Count) (many most : ℕ) (samples : List Sample)
+    → furthest (points_from c many most samples) ≤ 1300
+points_low c many most [] = omega arith
+points_low c many most (s ∷ samples) =
+    max_low (across many s.index) _ (across_low many s.index) (points_low c many most samples)
+
+curves_fit : (many most : ℕ) (samples : List Sample) → All Fits (curves many most samples)
+curves_fit many most samples =
+    All-cons Fits (curve count.Fed many most samples)
+    (curve count.Left many most samples ∷ curve count.Held many most samples ∷ [])
+    (points_low count.Fed many most samples)
+    (two_fit (curve count.Left many most samples) (curve count.Held many most samples)
+    (points_low count.Left many most samples) (points_low count.Held many most samples))
+
+line_fits : (many : ℕ) (s : Sample) → Fits (epoch_line many s)
+line_fits many s =
+    max_low (across many s.index) (across many s.index) (across_low many s.index) (across_low many s.index)
+
+epochs_fit : (many before : ℕ) (samples : List Sample) → All Fits (epochs_from many before samples)
+epochs_fit many before [] = All-nil Fits
+epochs_fit many before (s ∷ samples) =
+    All-append Fits _ (epochs_from many s.epoch samples) (by (s.epoch == before)) (epochs_fit many s.epoch samples)
+  where
+    by : (b : Bool) → All Fits (if b then [] else epoch_line many s ∷ [])
+    by true = All-nil Fits
+    by false = one_fits (epoch_line many s) (line_fits many s)
+
+axis_fits : All Fits axis_elements
+axis_fits = two_fit axis (word_at 1130 264 (codes "events")) (omega arith) (omega arith)
+
+chart_fits : (notes : List Note) → All Fits (chart notes)
+chart_fits notes =
+    let many = length notes in
+    let samples = samples_of notes in
+    All-append Fits (axis_elements ++ epochs_from many 1 samples) (curves many (most_from 0 notes) samples)
+    (All-append Fits axis_elements (epochs_from many 1 samples) axis_fits (epochs_fit many 1 samples))
+    (curves_fit many (most_from 0 notes) samples)
+
+-- The legend
+
+key_fits : (x : ℕ) (c : Class) (s : Shape) (words : List ℕ) → reach s ≤ 1300 → x + 24 + 8 * length words ≤ 1300
+    → All Fits (key_of x c s words)
+unfolding key_of
+key_fits x c s words one low =
+    two_fit (record { class = c; title = None; shape = s }) (word_at (x + 24) 284 words) one low
+
+line_key_fits : (x : ℕ) (c : Class) (words : List ℕ) → x + 24 + 8 * length words ≤ 1300
+    → All Fits (line_key x c words)
+line_key_fits x c words low =
+    let line : max x (x + 18) ≤ 1300 = omega (arith, low) in
+    key_fits x c (shape.Line (record { x = x; y = 280 }) (record { x = x + 18; y = 280 })) words line low
+
+legend_fits : All Fits (curve_keys ++ other_keys)
+legend_fits =
+    let fed = codes "packets that came in" in
+    let left = codes "outputs released" in
+    let held = codes "outputs that wait" in
+    let epoch = codes "a new epoch" in
+    All-append Fits curve_keys other_keys
+    (All-append Fits (line_key 120 class.Fed fed ++ line_key 320 class.Left left) (line_key 500 class.Held held)
+    (All-append Fits (line_key 120 class.Fed fed) (line_key 320 class.Left left)
+    (line_key_fits 120 class.Fed fed (omega arith)) (line_key_fits 320 class.Left left (omega arith)))
+    (line_key_fits 500 class.Held held (omega arith)))
+    (All-append Fits (line_key 680 class.Crash epoch) bar_key (line_key_fits 680 class.Crash epoch (omega arith))
+    (key_fits 840 class.Bar (shape.Rectangle (record { x = 840; y = 272 }) 18 16) (codes "moves of a thread")
+    (omega arith) (omega arith)))
+
+-- The bars
+
+between : (a b : ℕ) → a ≤ 1300 → b ≤ 1300 → a + (b - a) ≤ 1300
+between a b one two = omega (arith, one, two)
+
+bar_fits : (many most t : ℕ) (s : Slice) → Fits (bar_of many most t s)
+bar_fits many most t s =
+    between (across many s.first) (across many (s.first + s.events)) (across_low many s.first)
+    (across_low many (s.first + s.events))
+
+bars_fit : (many most t : ℕ) (slices : List Slice) → All Fits (bars_of many most t slices)
+bars_fit many most t [] = All-nil Fits
+bars_fit many most t (s ∷ slices) =
+    All-cons Fits (bar_of many most t s) (bars_of many most t slices) (bar_fits many most t s)
+    (bars_fit many most t slices)
+
+word_fits : (t : ℕ) → t < 1000 → Fits (word_at 10 (floor_of t) (codes "thread " ++ decimal t))
+word_fits t low =
+    let digits : length (decimal t) ≤ 3 = length-decimal-le 3 t (omega arith) low (omega (arith, low)) in
+    let all : length (codes "thread " ++ decimal t) ≡ 7 + length (decimal t) =
+    length-append (codes "thread ") (decimal t) in omega (arith, digits, all)
+
+floor_fits : (most t : ℕ) (notes : List Note) → t < 1000 → All Fits (floor_elements most t notes)
+floor_fits most t notes low =
+    let word = word_at 10 (floor_of t) (codes "thread " ++ decimal t) in
+    All-append Fits (word ∷ floor_line t ∷ []) (bars_of (length notes) most t (slices_of t notes))
+    (two_fit word (floor_line t) (word_fits t low) (omega arith))
+    (bars_fit (length notes) most t (slices_of t notes))
+
+floors_fit : (most t rest : ℕ) (notes : List Note) → t + rest ≤ 1000 → All Fits (floors_from most t rest notes)
+floors_fit most t zero notes low = All-nil Fits
+floors_fit most t (suc rest) notes low =
+    All-append Fits (floor_elements most t notes) (floors_from most (t + 1) rest notes)
+    (floor_fits most t notes (omega (arith, low))) (floors_fit most (t + 1) rest notes (omega (arith, low)))
+
+pub overview_within : (threads : ℕ) (notes : List Note) → threads < 1000
+    → All (λ (e : Element). reach e.shape ≤ 1300) (overview threads notes)
+overview_within threads notes low =
+    All-append Fits (chart notes ++ (curve_keys ++ other_keys)) (floors_of threads notes)
+    (All-append Fits (chart notes) (curve_keys ++ other_keys) (chart_fits notes) legend_fits)
+    (floors_fit (most_moves 0 0 threads notes) 0 threads notes (omega (arith, low)))
