@@ -560,3 +560,14 @@ makes_next {P} {V} meaning y old same t given answer g i r q calls = record {
       step_logs (meaning y.program) y old same t given answer g i r q calls e is s w
       (subst (λ (z : Parts P V). StandsFor (meaning z.program) s w z) (sym same) st);
 }
+
+-- A thread that there is none of does nothing.
+pub past_threads : {P V : Type 0} (m : Meaning V) (s : Setting V) (w : World V) (y : Parts P V) (t : ℕ)
+    (given : Option ℕ) → StandsFor m s w y → y.inputs.threads ≤ t
+    → (x : World V)
+    × ((OnStep s w t given outcome.Nothing x × (let none : List Sent = [] in none ≡ [])) × IsWithin x)
+    × StandsFor m s x y
+past_threads m s w y t given st high = (w, ((inl (low, refl, refl), refl), st.within), st)
+  where
+    low : s.threads ≤ t
+    low = subst (λ (i : Fed). i.threads ≤ t) st.inputs.inputs high
