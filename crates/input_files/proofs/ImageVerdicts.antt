@@ -121,14 +121,14 @@ image_both : (bytes : List ℕ) (file : ImageFile) (fault : LineFault) → SaysI
     → SaysImage bytes (Err (error.Fault fault)) → ⊥
 image_both bytes file fault a b =
     let First : List ℕ → Type 0 = λ text. FirstFault text fault.line fault.cause in
-    both bytes file.image fault.line fault.cause a.2.1 (subst First (within bytes a.0) b.0)
+    both bytes file.image fault.line fault.cause a.2 (subst First (within bytes a.0) b.0)
 
 image_fits : (bytes : List ℕ) (file : ImageFile) (passed : Limit) → SaysImage bytes (Ok file)
     → ImagePasses bytes passed → ⊥
 image_fits bytes file passed a b = by_limit (image_limit bytes passed b)
   where
     by_limit : Passes bytes passed → ⊥
-    by_limit (inl h) = a.2.2 (subst HasTooMany (within bytes a.0) h.1)
+    by_limit (inl h) = a.3 (subst HasTooMany (within bytes a.0) h.1)
     by_limit (inr h) = no_room (length bytes) a.0 h.1
 
 image_fault_fits : (bytes : List ℕ) (fault : LineFault) (passed : Limit) → SaysImage bytes (Err (error.Fault fault))
@@ -152,7 +152,7 @@ pub one_image : (bytes : List ℕ) (a b : Result ImageFile (InputError LineFault
     → SaysImage bytes a → SaysImage bytes b → a ≡ b
 one_image bytes (Ok a) (Ok b) d e x y =
     ap (λ (f : ImageFile). Ok f)
-    (file_eq a b (x.1 ∙ sym y.1) (images.one_image bytes a.image b.image x.2.0 y.2.0))
+    (file_eq a b (x.1 ∙ sym y.1) (images.one_image bytes a.image b.image x.2 y.2))
 one_image bytes (Ok a) (Err (error.Fault f)) d e x y = absurd (image_both bytes a f x y)
 one_image bytes (Ok a) (Err (error.TooLarge l)) d e x y = absurd (image_fits bytes a l x y)
 one_image bytes (Ok a) (Err error.ReadFault) d e x y = absurd e

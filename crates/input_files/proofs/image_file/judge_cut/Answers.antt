@@ -1,6 +1,7 @@
 use Rattle.std.proofs.Common.{rules, List, ℕ, subst}
 use Rattle.plain_text.specs.declared.fault.LineCause.{LineCause}
-use Rattle.handover.specs.Images.{FirstFault, HasTooMany, IsImage}
+use Rattle.handover.specs.Images.{FirstFault, HasTooMany, IsImage, IsRefused}
+use Rattle.input_files.specs.Texts.{whole_lines}
 use Rattle.input_files.proofs.ImageVerdicts.{cut_image_whole, cut_image_missing, cut_image_faulty, cut_image_long}
 use Rattle.input_files.proofs.image_file.judge_cut.Goals as goal
 
@@ -12,17 +13,17 @@ returns-in-Ok-clause-says c = λ front bytes lines is.
 pub returns-in-MissingLine-clause-says : goal.returns-in-MissingLine-clause-says
 returns-in-MissingLine-clause-says c = λ front bytes lines is.
     let fault = c.in-Err-Fault.fault in
-    let refused = c.in-Err-Fault.ensures.refused in
+    let refused = subst (IsRefused c.args.lines.now) c.in-Err-Fault.field-0-is c.in-Err-Fault.ensures.refused in
     let first = subst (λ (text : List ℕ). FirstFault text fault.line fault.cause) lines refused.0 in
     cut_image_missing front bytes fault.line
-    (subst (λ (cause : LineCause). FirstFault _ fault.line cause) c.in-MissingLine.is first)
+    (subst (λ (cause : LineCause). FirstFault (whole_lines front) fault.line cause) c.in-MissingLine.is first)
     (subst (λ (text : List ℕ). HasTooMany text → ⊥) lines refused.1) is
 
 pub returns-in_default : goal.returns-in_default
 returns-in_default c = record {
   says = λ front bytes lines is.
       let fault = c.in-Err-Fault.fault in
-      let refused = c.in-Err-Fault.ensures.refused in
+      let refused = subst (IsRefused c.args.lines.now) c.in-Err-Fault.field-0-is c.in-Err-Fault.ensures.refused in
       cut_image_faulty front bytes fault
       (subst (λ (text : List ℕ). FirstFault text fault.line fault.cause) lines refused.0)
       (subst (λ (text : List ℕ). HasTooMany text → ⊥) lines refused.1) c.in_default.not-MissingLine is;
@@ -31,4 +32,6 @@ returns-in_default c = record {
 
 pub returns-in-Err-TooMany-clause-says : goal.returns-in-Err-TooMany-clause-says
 returns-in-Err-TooMany-clause-says c = λ front bytes lines is.
-    cut_image_long front bytes (subst HasTooMany lines c.in-Err-TooMany.ensures.refused) is
+    cut_image_long front bytes
+    (subst HasTooMany lines
+    (subst (IsRefused c.args.lines.now) c.in-Err-TooMany.field-0-is c.in-Err-TooMany.ensures.refused)) is
