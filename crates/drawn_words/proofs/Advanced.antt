@@ -18,4 +18,5 @@ pub words_are : (seed count : ℕ) (old new : Lcg) → count < 2 ^ 64 → old �
 words_are seed count old new few fresh is =
     ap (λ (g : Lcg). let d : Drawn = record { generator = g; drawn = count } in d)
     (is ∙ ap (λ (g : Lcg). advance 64 multiplier_64 count g) fresh ∙ ahead seed count)
-    ∙ ap (λ (n : ℕ). let d : Drawn = record { generator = generator_after seed count; drawn = n } in d) (whole count few)
+    ∙ ap (λ (n : ℕ). let d : Drawn = record { generator = generator_after seed count; drawn = n } in d)
+    (whole count few)

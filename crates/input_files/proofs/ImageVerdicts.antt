@@ -1,5 +1,6 @@
 -- What the reader of images answers, of the front of a file, is so of the file; and a file decides the answer to it.
-use Rattle.std.proofs.Common.{◌≡◌, ℕ, ◌<◌, ◌≤◌, ◌⊎◌, inl, inr, List, length, refl, sym, ap, ◌∙◌, subst, arith, Result, Ok, Err}
+use Rattle.std.proofs.Common.{◌≡◌, ℕ, ◌<◌, ◌≤◌, ◌⊎◌, inl, inr, List, length, refl, sym, ap, ◌∙◌, subst, arith, Result}
+use Rattle.std.proofs.Common.{Ok, Err}
 use Rattle.plain_text.specs.declared.fault.LineCause.{LineCause}
 use Rattle.plain_text.specs.declared.fault.LineCause.TheVariants.{MissingLine}
 use Rattle.plain_text.specs.declared.fault.LineFault.{LineFault}
@@ -84,9 +85,9 @@ cut_image_missing front bytes line is few cut =
       ),
     )
 
-pub cut_image_faulty : (front bytes : List ℕ) (fault : LineFault) → FirstFault (whole_lines front) fault.line fault.cause
-    → (HasTooMany (whole_lines front) → ⊥) → ¬ (fault.cause ≡ MissingLine) → IsFrontOf (More front) bytes
-    → SaysImage bytes (Err (error.Fault fault))
+pub cut_image_faulty : (front bytes : List ℕ) (fault : LineFault)
+    → FirstFault (whole_lines front) fault.line fault.cause → (HasTooMany (whole_lines front) → ⊥)
+    → ¬ (fault.cause ≡ MissingLine) → IsFrontOf (More front) bytes → SaysImage bytes (Err (error.Fault fault))
 cut_image_faulty front bytes fault is few other cut = (
   cut_judged (λ text. FirstFault text fault.line fault.cause) front bytes is cut,
   cut_judged (λ text. HasTooMany text → ⊥) front bytes few cut,

@@ -229,8 +229,8 @@ sends_old : {V : Type 0} (a : Act V) (past : List (Step V)) (o : Emission) (n : 
 sends_old a past o n none (inl (is, at)) = absurd (none o is)
 sends_old a past o n none (inr i) = i
 
-module _ {P V : Type 0} (w : World V) (y : Parts P V) (drawn : ℕ) (g : Drawn) (q : Mastered V) (schedule : List PlainMove)
-    (moves bytes : ℕ) (t : ℕ) (after : Thread) (h : SentOf w y) where
+module _ {P V : Type 0} (w : World V) (y : Parts P V) (drawn : ℕ) (g : Drawn) (q : Mastered V)
+    (schedule : List PlainMove) (moves bytes : ℕ) (t : ℕ) (after : Thread) (h : SentOf w y) where
   pub sent_took : (k : ℕ)
       → SentOf (after_step w (record { thread = t; act = Took k; after = after }) drawn)
       (after_note y g q schedule moves bytes y.sent)

@@ -365,8 +365,8 @@ awaits_draws s w t given answer drawn move.Emit e a tells = absurd a
 awaits_draws s w t given answer drawn move.End e a tells = absurd a
 
 -- The parts are given by the equation that tells what they were.
-module _ {P V : Type 0} (m : Meaning V) (y old : Parts P V) (same : y ≡ old) (t : ℕ) (given answer : Option ℕ) (g : Drawn)
-    (i : Option Packet) (r : Stepped) (q : Mastered V) (calls : Calls m y t given answer g i r q) where
+module _ {P V : Type 0} (m : Meaning V) (y old : Parts P V) (same : y ≡ old) (t : ℕ) (given answer : Option ℕ)
+    (g : Drawn) (i : Option Packet) (r : Stepped) (q : Mastered V) (calls : Calls m y t given answer g i r q) where
   -- the input, the master's answer and what was told, for the setting and the world
   input_is : (s : Setting V) (w : World V) → StandsFor m s w y → IsInputAfter (inputs_fed s w.fed) t w.past i
   input_is s w st = subst (λ (f : Fed). IsInputAfter (inputs_of f) t w.past i) st.inputs.inputs

@@ -9,8 +9,7 @@ returns-in-More-clause-judged g c = λ p h.
     let read = c.in_ok-text.ensures.judged p h in
     let cut = subst (λ (front : Front). IsFrontOf front read.0) c.in-More.is read.2 in
     error_judged (g.W.World.healthy c.args.world.now) c.args.name.now (g.W.World.shows p c.args.world.now)
-    c.judge_cut.result
-    (
+    c.judge_cut.result (
       read.0,
       read.1,
       c.judge_cut.ensures.says c.in-More.front read.0 (c.whole_lines.ensures ∙ ap whole_lines c.as_slice.ensures) cut,
