@@ -73,17 +73,17 @@ none_made {V} m inputs threads t (x ∷ earlier) high h =
 -- Each event
 
 -- a fact of the words drawn, the moves, the past, the bytes, the ended epochs and the epoch
-abbrev Tally : Type 0 → Type 1
+abbrev pub Tally : Type 0 → Type 1
 Tally V = ℕ → ℕ → List (Step V) → ℕ → List EndedEpoch → ℕ → Type 0
 
-abbrev Of : {V : Type 0} → Tally V → World V → Type 0
+abbrev pub Of : {V : Type 0} → Tally V → World V → Type 0
 Of P w = P w.drawn w.moves w.past w.bytes w.ended w.epoch
 
 -- a move of a thread keeps it, and a recovery does
-record IsKept {V : Type 0} (s : Setting V) (P : Tally V) : Type 0 where
-  move : (d c m b n : ℕ) (past : List (Step V)) (ended : List EndedEpoch) (x : Step V) → P d m past b ended n
+pub record IsKept {V : Type 0} (s : Setting V) (P : Tally V) : Type 0 where
+  pub move : (d c m b n : ℕ) (past : List (Step V)) (ended : List EndedEpoch) (x : Step V) → P d m past b ended n
       → c ≤ d + 1 → P c (m + 1) (x ∷ past) (b + bytes_sent x.act) ended n
-  recover : (w : World V) → Sound s w → Of P w
+  pub recover : (w : World V) → Sound s w → Of P w
       → P w.drawn w.moves w.stored w.bytes (ended_now w ∷ w.ended) (w.epoch + 1)
 
 module _ {V : Type 0} (s : Setting V) (P : Tally V) (kept : IsKept s P) where

@@ -11,7 +11,7 @@ use Rattle.plain_machine.specs.declared.plain_move.PlayCause.{PlayCause}
 use Rattle.plain_machine.specs.declared.plain_move.PlayFault.{PlayFault}
 use Rattle.plain_machine.specs.Program.{Meaning}
 use Rattle.plain_machine.specs.History.{Step, sent_of, outputs, plain_move, numbered, and_move, and_moves, play}
-use Rattle.plain_machine.proofs.PlayedLists.{no_play, play_append, fault_is_first}
+use Rattle.plain_machine.proofs.PlayedLists.{stuck, play_append, fault_is_first}
 use Rattle.recovery_world.specs.World.{Setting, inputs_fed}
 use Rattle.handover.specs.declared.image.Ended.{Ended}
 use Rattle.handover.specs.declared.image.Image.{Image}
@@ -34,15 +34,18 @@ module _ {V : Type 0} (s : Setting V) (image : Image) where
       → plain_move s.meaning inputs s.threads steps move ≡ Err cause
       → play s.meaning inputs s.threads (made ++ move ∷ more) ≡ Ok next → ⊥
   no_further made more steps next move cause plays bad all =
-      no_play s.meaning inputs s.threads more (record { number = length steps + 1; cause = cause }) next stuck
+      let e : ◌≡◌ {A = Result (List (Step V)) PlayFault} (Err (record { number = length steps + 1; cause = cause }))
+      (Ok next) =
+      sym (stuck s.meaning inputs s.threads more (record { number = length steps + 1; cause = cause })) ∙ ends in
+      cc
     where
       one : and_move s.meaning inputs s.threads (Ok steps) move
           ≡ Err (record { number = length steps + 1; cause = cause })
       one = ap (λ (r : Result (List (Step V)) PlayCause). numbered (length steps) r) bad
 
-      stuck : and_moves s.meaning inputs s.threads (Err (record { number = length steps + 1; cause = cause })) more
+      ends : and_moves s.meaning inputs s.threads (Err (record { number = length steps + 1; cause = cause })) more
           ≡ Ok next
-      stuck =
+      ends =
           subst (λ (r : Result (List (Step V)) PlayFault). and_moves s.meaning inputs s.threads r more ≡ Ok next) one
           (subst (λ (r : Result (List (Step V)) PlayFault).
           and_moves s.meaning inputs s.threads r (move ∷ more) ≡ Ok next) plays
@@ -209,7 +212,9 @@ module _ {V : Type 0} (steps : List (Step V)) where
       → AreReleased steps all ⊎ ((place : ℕ) × WrongReleased steps all place)
   released_or all before [] e good =
       inl (subst (λ (l : List (ℕ × ℕ)). AreReleased steps l) (sym (e ∙ append-nil before)) good)
-  released_or all before (x ∷ rest) e good = go (output_or x) (contains_or pair_or before x)
+  released_or all before (x ∷ rest) e good =
+      go (output_or x) (contains_or pair_or before x) (released_or all (before ++ x ∷ []) rest
+      (e ∙ sym (append_assoc before (x ∷ []) rest)))
     where
       wrong : (IsOutputIn steps x → ⊥) ⊎ Contains before x
           → AreReleased steps all ⊎ ((place : ℕ) × WrongReleased steps all place)
@@ -224,12 +229,12 @@ module _ {V : Type 0} (steps : List (Step V)) where
       })
 
       go : Or (IsOutputIn steps x) → Or (Contains before x)
+          → (AreReleased steps (before ++ x ∷ [])
+          → AreReleased steps all ⊎ ((place : ℕ) × WrongReleased steps all place))
           → AreReleased steps all ⊎ ((place : ℕ) × WrongReleased steps all place)
-      go (inr no) b = wrong (inl no)
-      go (inl is) (inl there) = wrong (inr there)
-      go (inl is) (inr new) =
-          released_or all (before ++ x ∷ []) rest (e ∙ sym (append_assoc before (x ∷ []) rest))
-          (one_more before x good is new)
+      go (inr never) b later = wrong (inl never)
+      go (inl is) (inl there) later = wrong (inr there)
+      go (inl is) (inr new) later = later (one_more before x good is new)
 
   none_released : AreReleased steps []
   none_released [] rest output e = absurd (cc)
@@ -245,7 +250,7 @@ module _ {V : Type 0} (steps : List (Step V)) where
       is = good w.before w.rest w.output w.outputs_are
 
       go : (IsOutputIn steps w.output → ⊥) ⊎ Contains w.before w.output → ⊥
-      go (inl no) = no is.0
+      go (inl never) = never is.0
       go (inr there) = is.1 there
 
   -- a wrong one does not stand before the first that is wrong
@@ -261,7 +266,7 @@ module _ {V : Type 0} (steps : List (Step V)) where
           (short.longer ∙ ap (λ (y : ℕ × ℕ). a.before ++ y ∷ short.later) (sym first))
 
       go : (IsOutputIn steps a.output → ⊥) ⊎ Contains a.before a.output → ⊥
-      go (inl no) = no is.0
+      go (inl never) = never is.0
       go (inr there) = is.1 there
 
   pub wrong_one : (all : List (ℕ × ℕ)) (i j : ℕ) → WrongReleased steps all i → WrongReleased steps all j → i ≡ j
@@ -304,33 +309,33 @@ module _ {V : Type 0} (s : Setting V) (image : Image) where
 
   -- a fault behind the counts
   pub one_fault : (a b : ResumeError) → IsFault s image a → IsFault s image b → a ≢ NoMemory → b ≢ NoMemory → a ≡ b
-  one_fault NoMemory b f g no other = absurd (no refl)
-  one_fault (Count zero) NoMemory f g no other = absurd (other refl)
-  one_fault (Count (suc i)) NoMemory f g no other = absurd (other refl)
-  one_fault (Move x) NoMemory f g no other = absurd (other refl)
-  one_fault (Released i) NoMemory f g no other = absurd (other refl)
-  one_fault (Count zero) (Count zero) f g no other = refl
-  one_fault (Count zero) (Count (suc j)) f g no other = absurd (f g.0)
-  one_fault (Count zero) (Move y) f g no other = absurd (f g.0)
-  one_fault (Count zero) (Released j) f g no other = absurd (f g.0)
-  one_fault (Count (suc i)) (Count zero) f g no other = absurd (g f.0)
-  one_fault (Move x) (Count zero) f g no other = absurd (g f.0)
-  one_fault (Released i) (Count zero) f g no other = absurd (g f.0)
-  one_fault (Count (suc i)) (Count (suc j)) f g no other =
+  one_fault NoMemory b f g first other = absurd (first refl)
+  one_fault (Count zero) NoMemory f g first other = absurd (other refl)
+  one_fault (Count (suc i)) NoMemory f g first other = absurd (other refl)
+  one_fault (Move x) NoMemory f g first other = absurd (other refl)
+  one_fault (Released i) NoMemory f g first other = absurd (other refl)
+  one_fault (Count zero) (Count zero) f g first other = refl
+  one_fault (Count zero) (Count (suc j)) f g first other = absurd (f g.0)
+  one_fault (Count zero) (Move y) f g first other = absurd (f g.0)
+  one_fault (Count zero) (Released j) f g first other = absurd (f g.0)
+  one_fault (Count (suc i)) (Count zero) f g first other = absurd (g f.0)
+  one_fault (Move x) (Count zero) f g first other = absurd (g f.0)
+  one_fault (Released i) (Count zero) f g first other = absurd (g f.0)
+  one_fault (Count (suc i)) (Count (suc j)) f g first other =
       let e : Some (suc i) ≡ Some (suc j) = sym f.1 ∙ g.1 in
       let same : suc i ≡ suc j = cc in
       ap (λ (n : ℕ). let r : ResumeError = Count n in r) same
-  one_fault (Count (suc i)) (Move y) f g no other = absurd (row_not (suc i) g.1 f.1)
-  one_fault (Count (suc i)) (Released j) f g no other = absurd (row_not (suc i) g.1 f.1)
-  one_fault (Move x) (Count (suc j)) f g no other = absurd (row_not (suc j) f.1 g.1)
-  one_fault (Released i) (Count (suc j)) f g no other = absurd (row_not (suc j) f.1 g.1)
-  one_fault (Move x) (Move y) f g no other =
+  one_fault (Count (suc i)) (Move y) f g first other = absurd (row_not (suc i) g.1 f.1)
+  one_fault (Count (suc i)) (Released j) f g first other = absurd (row_not (suc i) g.1 f.1)
+  one_fault (Move x) (Count (suc j)) f g first other = absurd (row_not (suc j) f.1 g.1)
+  one_fault (Released i) (Count (suc j)) f g first other = absurd (row_not (suc j) f.1 g.1)
+  one_fault (Move x) (Move y) f g first other =
       let e : ◌≡◌ {A = Result (List (Step V)) PlayFault} (Err x) (Err y) = sym f.2 ∙ g.2 in
       let same : x ≡ y = cc in
       ap (λ (z : PlayFault). let r : ResumeError = Move z in r) same
-  one_fault (Move x) (Released j) f g no other = absurd (ok_not_err g.2 x g.3 f.2)
-  one_fault (Released i) (Move y) f g no other = absurd (ok_not_err f.2 y f.3 g.2)
-  one_fault (Released i) (Released j) f g no other =
+  one_fault (Move x) (Released j) f g first other = absurd (ok_not_err g.2 x g.3 f.2)
+  one_fault (Released i) (Move y) f g first other = absurd (ok_not_err f.2 y f.3 g.2)
+  one_fault (Released i) (Released j) f g first other =
       ap (λ (n : ℕ). let r : ResumeError = Released n in r)
       (wrong_one g.2 image.released i j
       (subst (λ (l : List (Step V)). WrongReleased l image.released i) (ok_one f.2 g.2 f.3 g.3) f.4) g.4)

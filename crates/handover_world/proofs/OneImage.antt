@@ -104,7 +104,7 @@ SameAt x y t = (x.entries t ≡ y.entries t) × (x.outputs t ≡ y.outputs t)
 rows_same : (epoch other : ℕ) (x y : EndedEpoch) (t many : ℕ) → rows_of epoch x t many ≡ rows_of other y t many
     → (u : ℕ) → t ≤ u → u < t + many → SameAt x y u
 rows_same epoch other x y t zero e u low high = absurd (omega (arith, low, high))
-rows_same epoch other x y t (suc many) e u low high = go (is_or t u)
+rows_same epoch other x y t (suc many) e u low high = go (is_or t u) (rows_same epoch other x y (t + 1) many rest u)
   where
     first : ◌≡◌ {A = Ended} (record { epoch = epoch; thread = t; entries = x.entries t; outputs = x.outputs t })
         (record { epoch = other; thread = t; entries = y.entries t; outputs = y.outputs t })
@@ -113,11 +113,10 @@ rows_same epoch other x y t (suc many) e u low high = go (is_or t u)
     rest : rows_of epoch x (t + 1) many ≡ rows_of other y (t + 1) many
     rest = cc
 
-    go : (t ≡ u) ⊎ (t ≢ u) → SameAt x y u
-    go (inl same) = subst (λ (n : ℕ). SameAt x y n) same
+    go : (t ≡ u) ⊎ (t ≢ u) → (t + 1 ≤ u → u < t + 1 + many → SameAt x y u) → SameAt x y u
+    go (inl same) later = subst (λ (n : ℕ). SameAt x y n) same
         (ap (λ (r : Ended). r.entries) first, ap (λ (r : Ended). r.outputs) first)
-    go (inr differs) =
-        rows_same epoch other x y (t + 1) many rest u (omega (arith, low, differs)) (omega (arith, high))
+    go (inr differs) later = later (omega (arith, low, differs)) (omega (arith, high))
 
 pub ended_same : (threads : ℕ) (xs ys : List EndedEpoch) → length xs ≡ length ys
     → ended_rows threads xs ≡ ended_rows threads ys → (i t : ℕ) (x y : EndedEpoch) → slice_get xs i ≡ Some x
@@ -126,22 +125,24 @@ ended_same threads [] ys long e i t x y a b low =
     let none : ◌≡◌ {A = Option EndedEpoch} None (Some x) = a in absurd (cc)
 ended_same threads (z ∷ xs) [] long e i t x y a b low =
     let none : ◌≡◌ {A = Option EndedEpoch} None (Some y) = b in absurd (cc)
-ended_same threads (z ∷ xs) (v ∷ ys) long e i t x y a b low = go i a b
+ended_same threads (z ∷ xs) (v ∷ ys) long e i t x y a b low =
+    go i a b (λ j. ended_same threads xs ys (omega (arith, long)) both.0 j t x y)
   where
     both : (ended_rows threads xs ≡ ended_rows threads ys)
         × (rows_of (length xs + 1) z 0 threads ≡ rows_of (length ys + 1) v 0 threads)
     both = same_parts (ended_rows threads xs) (rows_of (length xs + 1) z 0 threads) (ended_rows threads ys)
         (rows_of (length ys + 1) v 0 threads) (rows_as_long threads xs ys (omega (arith, long))) e
 
-    go : (i : ℕ) → slice_get (z ∷ xs) i ≡ Some x → slice_get (v ∷ ys) i ≡ Some y → SameAt x y t
-    go zero a b =
+    go : (i : ℕ) → slice_get (z ∷ xs) i ≡ Some x → slice_get (v ∷ ys) i ≡ Some y
+        → ((j : ℕ) → slice_get xs j ≡ Some x → slice_get ys j ≡ Some y → t < threads → SameAt x y t) → SameAt x y t
+    go zero a b later =
         let here : ◌≡◌ {A = Option EndedEpoch} (Some z) (Some x) = a in
         let there : ◌≡◌ {A = Option EndedEpoch} (Some v) (Some y) = b in
         let p : z ≡ x = cc in
         let q : v ≡ y = cc in
         subst (λ (n : EndedEpoch). SameAt n y t) p (subst (λ (n : EndedEpoch). SameAt z n t) q
         (rows_same (length xs + 1) (length ys + 1) z v 0 threads both.1 t (omega arith) (omega (arith, low))))
-    go (suc i) a b = ended_same threads xs ys (omega (arith, long)) both.0 i t x y a b low
+    go (suc i) a b later = later i a b low
 
 -- Outputs
 
@@ -155,18 +156,20 @@ outputs_same s fed past h [] [] a b e = refl
 outputs_same s fed past h [] (y ∷ ys) a b e = absurd (cc)
 outputs_same s fed past h (x ∷ xs) [] a b e = absurd (cc)
 outputs_same s fed past h (x ∷ xs) (y ∷ ys) a b e =
-    ap (λ (z : Sent). z ∷ xs) one ∙ ap (λ (l : List Sent). y ∷ l) later
+    ap (λ (z : Sent). z ∷ xs) one
+    ∙ ap (λ (l : List Sent). y ∷ l)
+    (outputs_same s fed past h xs ys (λ o i. a o (inr i)) (λ o i. b o (inr i)) names)
   where
-    name : (x.emission.thread, x.emission.number) ≡ (y.emission.thread, y.emission.number)
+    name : ◌≡◌ {A = ℕ × ℕ} (x.emission.thread, x.emission.number) (y.emission.thread, y.emission.number)
     name =
-        let k : (x.emission.thread, x.emission.number) ∷ sent_names xs
-        ≡ (y.emission.thread, y.emission.number) ∷ sent_names ys = e in
+        let k : ◌≡◌ {A = List (ℕ × ℕ)} ((x.emission.thread, x.emission.number) ∷ sent_names xs)
+        ((y.emission.thread, y.emission.number) ∷ sent_names ys) = e in
         cc
 
     names : sent_names xs ≡ sent_names ys
     names =
-        let k : (x.emission.thread, x.emission.number) ∷ sent_names xs
-        ≡ (y.emission.thread, y.emission.number) ∷ sent_names ys = e in
+        let k : ◌≡◌ {A = List (ℕ × ℕ)} ((x.emission.thread, x.emission.number) ∷ sent_names xs)
+        ((y.emission.thread, y.emission.number) ∷ sent_names ys) = e in
         cc
 
     same : (x.emission ≡ y.emission) × (x.after ≡ y.after)
@@ -177,9 +180,6 @@ outputs_same s fed past h (x ∷ xs) (y ∷ ys) a b e =
     one =
         ap (λ (o : Emission). let z : Sent = record { emission = o; after = x.after } in z) same.0
         ∙ ap (λ (n : ℕ). let z : Sent = record { emission = y.emission; after = n } in z) same.1
-
-    later : xs ≡ ys
-    later = outputs_same s fed past h xs ys (λ o i. a o (inr i)) (λ o i. b o (inr i)) names
 
 -- Two worlds
 

@@ -42,8 +42,14 @@ rows_right threads before epoch t zero all more x rest at last few =
     ap (λ (n : ℕ). wrong_row threads n all rest) a ∙ ap (λ (n : ℕ). wrong_row threads (before + 0) n rest) b
 rows_right threads before epoch t (suc many) all more x rest at last few =
     ap (λ (n : ℕ). wrong_row threads before n (rows_of (epoch + 1) x t (suc many) ++ rest)) front
-    ∙ (here ∙ (later ∙ ap (λ (n : ℕ). wrong_row threads n more rest) (omega arith)))
+    ∙ (here
+    ∙ (rows_right threads (before + 1) epoch (t + 1) many (many + more) more x rest (omega (arith, at))
+    (omega (arith, last)) refl
+    ∙ ap (λ (n : ℕ). wrong_row threads n more rest) same))
   where
+    same : before + 1 + many ≡ before + suc many
+    same = omega arith
+
     front : all ≡ suc (many + more)
     front = omega (arith, few)
 
@@ -63,11 +69,6 @@ rows_right threads before epoch t (suc many) all more x rest at last few =
     here : wrong_row threads before (suc (many + more)) (rows_of (epoch + 1) x t (suc many) ++ rest)
         ≡ wrong_row threads (before + 1) (many + more) (rows_of (epoch + 1) x (t + 1) many ++ rest)
     here = rw is_epoch (rw is_thread refl)
-
-    later : wrong_row threads (before + 1) (many + more) (rows_of (epoch + 1) x (t + 1) many ++ rest)
-        ≡ wrong_row threads (before + 1 + many) more rest
-    later = rows_right threads (before + 1) epoch (t + 1) many (many + more) more x rest (omega (arith, at))
-        (omega (arith, last)) refl
 
 ended_right : (threads all more : ℕ) (ended : List EndedEpoch) (rest : List Ended)
     → all ≡ length ended * threads + more
