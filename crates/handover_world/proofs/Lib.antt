@@ -1,5 +1,7 @@
 pub mod Counting
+pub mod Examples
 pub mod GoingOn
+pub mod ImageWorlds
 pub mod OneFault
 pub mod OneImage
 pub mod Resting

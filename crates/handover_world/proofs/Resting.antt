@@ -16,6 +16,7 @@ use Rattle.recovery_world.specs.Events.{ended_now, On}
 use Rattle.recovery_world.specs.Finish.{IsToCome}
 use Rattle.recovery_world.specs.Limits.{limit_passed, IsWithin}
 use Rattle.recovery_world.specs.Many.{begins, OnAny, Single, Several}
+use Rattle.recovery_world.specs.Files.{Performs, Rests, Goes}
 use Rattle.recovery_laws.specs.Sound.{Sound}
 use Rattle.recovery_laws.proofs.EventOutcomes.{on_there}
 use Rattle.recovery_laws.proofs.KeptWorlds.{any_sound}
@@ -80,6 +81,53 @@ rest_there s w h low =
       d.0,
       record { copied = a.0; snap = a.1; stored = b.0; store = b.1; down = c.0; crash = c.1; recover = d.1 },
     )
+
+-- As a script
+
+performs_front : {V : Type 0} (s : Setting V) (w new : World V) (all later : List Event) (ev : Event) (lines : List ℕ)
+    → Performs s w all lines new → all ≡ ev ∷ later
+    → (mid : World V) × LeadsTo s w ev mid × (said : List ℕ) × Performs s mid later said new
+performs_front s w new all later ev lines (Rests same) e = absurd (cc)
+performs_front {V} s w new all later ev lines (Goes {mid = mid} {events = events} {lines = said} first to freed on go) e =
+    let a : first ≡ ev = cc in
+    let b : events ≡ later = cc in (
+      mid,
+      (to, freed, subst (λ (z : Event). OnAny s w z to freed mid) a on),
+      said,
+      subst (λ (l : List Event). Performs s mid l said new) b go,
+    )
+
+performs_end : {V : Type 0} (s : Setting V) (w new : World V) (all : List Event) (lines : List ℕ)
+    → Performs s w all lines new → all ≡ [] → w ≡ new
+performs_end s w new all lines (Rests same) e = refl
+performs_end s w new all lines (Goes first to freed on go) e = absurd (cc)
+
+pub rest_of_script : {V : Type 0} (s : Setting V) (w new : World V) (lines : List ℕ)
+    → Performs s w (Snap ∷ Store ∷ Crash ∷ Recover ∷ []) lines new → ComesToRest s w new
+rest_of_script {V} s w new lines p =
+    let a = performs_front s w new (Snap ∷ Store ∷ Crash ∷ Recover ∷ []) (Store ∷ Crash ∷ Recover ∷ []) Snap lines p
+    refl in
+    let b = performs_front s a.0 new (Store ∷ Crash ∷ Recover ∷ []) (Crash ∷ Recover ∷ []) Store a.2 a.3 refl in
+    let c = performs_front s b.0 new (Crash ∷ Recover ∷ []) (Recover ∷ []) Crash b.2 b.3 refl in
+    let d = performs_front s c.0 new (Recover ∷ []) [] Recover c.2 c.3 refl in
+    let last : d.0 ≡ new = performs_end s d.0 new [] d.2 d.3 refl in
+    record {
+      copied = a.0;
+      snap = a.1;
+      stored = b.0;
+      store = b.1;
+      down = c.0;
+      crash = c.1;
+      recover = subst (λ (z : World V). LeadsTo s c.0 Recover z) last d.1;
+    }
+
+pub script_of_rest : {V : Type 0} (s : Setting V) (w new : World V) → ComesToRest s w new
+    → (lines : List ℕ) × Performs s w (Snap ∷ Store ∷ Crash ∷ Recover ∷ []) lines new
+script_of_rest s w new c = (
+  _,
+  Goes Snap c.snap.0 c.snap.1 c.snap.2 (Goes Store c.store.0 c.store.1 c.store.2
+      (Goes Crash c.crash.0 c.crash.1 c.crash.2 (Goes Recover c.recover.0 c.recover.1 c.recover.2 (Rests new)))),
+)
 
 -- What it is
 

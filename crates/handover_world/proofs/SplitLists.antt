@@ -5,6 +5,9 @@ use Rattle.std.proofs.lemmas.Bool.{cases_lt}
 use Rattle.entry_order.proofs.Order.{is_or}
 use Rattle.entry_order.proofs.ClosedParts.{Or}
 
+pub front_same : {X : Type 0} (x y : X) (xs ys : List X) → x ≡ y → xs ≡ ys → x ∷ xs ≡ y ∷ ys
+front_same x y xs ys a b = cc
+
 -- The first list ends before the second: this is next then, and this is what the second has behind it.
 pub record IsShorter {X : Type 0} (xs r ys q : List X) : Type 0 where
   pub next : X

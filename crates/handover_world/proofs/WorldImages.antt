@@ -29,6 +29,7 @@ use Rattle.handover_world.specs.Faults.{bytes_of, PlaysTo, MayBe, wrong_row, wro
 use Rattle.handover_world.specs.Faults.{HasNoFault}
 use Rattle.handover_world.specs.Images.{rows_of, ended_rows, IsImageOf, IsAtRest}
 use Rattle.handover_world.proofs.Counting.{earlier_bytes}
+use Rattle.handover_world.proofs.SplitLists.{front_same}
 
 -- The rows of ended epochs
 
@@ -102,9 +103,6 @@ rows_of_image s w image is =
 
 -- What was released
 
-name_of : Sent → ℕ × ℕ
-name_of o = (o.emission.thread, o.emission.number)
-
 -- an output at a place of the names is there at the place of the outputs
 record SentAt (xs : List Sent) (before : List (ℕ × ℕ)) (output : ℕ × ℕ) : Type 0 where
   front : List Sent
@@ -113,6 +111,18 @@ record SentAt (xs : List Sent) (before : List (ℕ × ℕ)) (output : ℕ × ℕ
   split : xs ≡ front ++ sent ∷ back
   front_is : sent_names front ≡ before
   name_is : (sent.emission.thread, sent.emission.number) ≡ output
+
+-- behind one more
+later_at : (x : Sent) (xs : List Sent) (b output : ℕ × ℕ) (before : List (ℕ × ℕ))
+    → (x.emission.thread, x.emission.number) ≡ b → SentAt xs before output → SentAt (x ∷ xs) (b ∷ before) output
+later_at x xs b output before first r = record {
+  front = x ∷ r.front;
+  sent = r.sent;
+  back = r.back;
+  split = ap (λ (l : List Sent). x ∷ l) r.split;
+  front_is = front_same (x.emission.thread, x.emission.number) b (sent_names r.front) before first r.front_is;
+  name_is = r.name_is;
+}
 
 sent_at : (xs : List Sent) (before rest : List (ℕ × ℕ)) (output : ℕ × ℕ)
     → sent_names xs ≡ before ++ output ∷ rest → SentAt xs before output
@@ -130,15 +140,7 @@ sent_at (x ∷ xs) (b ∷ before) rest output e =
     let all : (x.emission.thread, x.emission.number) ∷ sent_names xs ≡ b ∷ (before ++ output ∷ rest) = e in
     let first : (x.emission.thread, x.emission.number) ≡ b = cc in
     let later : sent_names xs ≡ before ++ output ∷ rest = cc in
-    let r = sent_at xs before rest output later in record {
-      front = x ∷ r.front;
-      sent = r.sent;
-      back = r.back;
-      split = ap (λ (l : List Sent). x ∷ l) r.split;
-      front_is = ap (λ (l : List (ℕ × ℕ)). (x.emission.thread, x.emission.number) ∷ l) r.front_is
-          ∙ ap (λ (n : ℕ × ℕ). n ∷ before) first;
-      name_is = r.name_is;
-    }
+    later_at x xs b output before first (sent_at xs before rest output later)
 
 among_mid : (front back : List Sent) (o : Sent) → IsAmong o (front ++ o ∷ back)
 among_mid [] back o = inl refl

@@ -5,6 +5,7 @@ ghost use Rattle.std.specs.Prelude.{◌++◌, slice_get, Some, Ok};
 ghost use Rattle.plain_text.specs.declared.limit.Limit.{Limit};
 ghost use Rattle.plain_machine.specs.History.{Step, play};
 ghost use Rattle.recovery_world.specs.declared.event.Event.{Event};
+ghost use Rattle.recovery_world.specs.declared.event.Event.TheVariants.{Snap, Store, Crash, Recover};
 ghost use Rattle.recovery_world.specs.declared.event.Outcome.{Outcome};
 ghost use Rattle.recovery_world.specs.World.{Setting, Sent, Ended as EndedEpoch, World, opening};
 ghost use Rattle.recovery_world.specs.World.{inputs_fed};
@@ -29,6 +30,10 @@ ghost use Rattle.handover_world.specs.Ready.{IsReadiness};
 pub fn ready_worlds_come_to_rest<X>()
     ensures there { (s : Setting X) (w : World X) → Sound s w → IsWithin w
         → (new : World X) × ComesToRest s w new }
+    ensures script { (s : Setting X) (w new : World X) (lines : List ℕ)
+        → Performs s w (Snap ∷ Store ∷ Crash ∷ Recover ∷ []) lines new → ComesToRest s w new }
+    ensures performs { (s : Setting X) (w new : World X) → ComesToRest s w new
+        → (lines : List ℕ) × Performs s w (Snap ∷ Store ∷ Crash ∷ Recover ∷ []) lines new }
     ensures rest { (s : Setting X) (w new : World X) → Sound s w → IsReadiness w (Ok tt)
         → ComesToRest s w new → IsAtRest new }
     ensures past { (s : Setting X) (w new : World X) → IsReadiness w (Ok tt)
@@ -91,6 +96,16 @@ pub fn images_of_worlds_have_no_fault<X>()
         → IsImageOf s w image → HasNoFault s image → IsCounted w }
     ensures within_again { (s : Setting X) (w : World X) (image : Image) → IsImageOf s w image
         → HasNoFault s image → IsWithin w }
+{}
+
+/// An image without a fault stands for a sound world at rest. So the faults are all that can be wrong with an image. And
+/// a list of moves that plays has the moves of its history.
+pub fn images_stand_for_worlds<X>()
+    ensures world { (s : Setting X) (image : Image) → HasNoFault s image
+        → (w : World X) × Sound s w × IsAtRest w × IsImageOf s w image }
+    ensures moves { (s : Setting X) (image : Image) (steps : List (Step X))
+        → play s.meaning (inputs_fed s image.fed) s.threads image.past ≡ Ok steps
+        → moves_made steps ≡ image.past }
 {}
 
 /// Each image has no fault, or it has one: exactly one of the two. Want of memory aside.

@@ -6,6 +6,6 @@ mod laws;
 mod unready;
 
 pub use fault::ResumeError;
-pub use laws::{handing_over_is_running, images_have_one_fault, images_of_worlds_have_no_fault, one_image};
-pub use laws::{reached_worlds_are_counted, ready_worlds_come_to_rest};
+pub use laws::{handing_over_is_running, images_have_one_fault, images_of_worlds_have_no_fault};
+pub use laws::{images_stand_for_worlds, one_image, reached_worlds_are_counted, ready_worlds_come_to_rest};
 pub use unready::Unready;

@@ -1,10 +1,17 @@
 use Rattle.std.proofs.Common.{ap}
 use Rattle.recovery_world.specs.World.{World}
-use Rattle.handover_world.proofs.Resting.{rest_there, comes_to_rest, rested, none_waits}
+use Rattle.handover_world.proofs.Resting.{rest_there, rest_of_script, script_of_rest, comes_to_rest, rested}
+use Rattle.handover_world.proofs.Resting.{none_waits}
 use Rattle.handover_world.proofs.laws.ready_worlds_come_to_rest.Goals as goal
 
 pub returns-clause-there : goal.returns-clause-there
 returns-clause-there g c = rest_there
+
+pub returns-clause-script : goal.returns-clause-script
+returns-clause-script g c = rest_of_script
+
+pub returns-clause-performs : goal.returns-clause-performs
+returns-clause-performs g c = script_of_rest
 
 pub returns-clause-rest : goal.returns-clause-rest
 returns-clause-rest g c = λ s w new h ready rest. comes_to_rest s w h ready new rest
