@@ -1,6 +1,6 @@
 -- What is counted in each world that events lead to.
-use Rattle.std.proofs.Common.{◌≡◌, ℕ, zero, suc, ◌+◌, ◌≤◌, ◌<◌, ◌≢◌, true, false, cond, List, [], ◌∷◌, ◌++◌, length, refl}
-use Rattle.std.proofs.Common.{sym, ap, ◌∙◌, subst, inl, inr, ◌⊎◌, arith, Option, Some, None}
+use Rattle.std.proofs.Common.{◌≡◌, ℕ, zero, suc, ◌+◌, ◌≤◌, ◌<◌, ◌≢◌, false, List, [], ◌∷◌, length, refl}
+use Rattle.std.proofs.Common.{sym, ◌∙◌, subst, inl, inr, arith, Option, Some, None}
 use Rattle.std.specs.Prelude.{nat_eq, slice_get}
 use Rattle.std.proofs.lemmas.Bool.Decides.{nat_tests}
 use Rattle.plain_text.specs.declared.limit.Limit.{Limit}
@@ -10,7 +10,6 @@ use Rattle.plain_text.specs.declared.packet.Packet.{Packet}
 use Rattle.entry_order.specs.Log.{entries}
 use Rattle.plain_machine.specs.declared.local.Move.{Move}
 use Rattle.plain_machine.specs.declared.local.Move.TheVariants.{Access, Read, Clock, Draw, Emit, End}
-use Rattle.plain_machine.specs.declared.emission.Emission.{Emission}
 use Rattle.plain_machine.specs.Program.{Meaning}
 use Rattle.plain_machine.specs.Machine.{Hand}
 use Rattle.plain_machine.specs.History.{Act, Took, Did, Emitted, Ended, Step, log_more, log_of, sent_more, sent_of}
@@ -21,14 +20,14 @@ use Rattle.recovery_world.specs.declared.event.Event.{Event}
 use Rattle.recovery_world.specs.declared.event.Event.TheVariants as event
 use Rattle.recovery_world.specs.declared.event.Outcome.{Outcome}
 use Rattle.recovery_world.specs.World.{Setting, Sent, Ended as EndedEpoch, World, opening, inputs_fed}
-use Rattle.recovery_world.specs.Events.{bytes_sent, Tells, TellsHand, OnStep, OnLog, OnOut, OnLate, OnCut, Recovers}
+use Rattle.recovery_world.specs.Events.{bytes_sent, Tells, TellsHand, OnStep, OnLog, OnOut, OnLate, OnCut}
 use Rattle.recovery_world.specs.Events.{ended_now, On}
 use Rattle.recovery_world.specs.Strategies.{Strategy, Follows, Ends, Halts, Goes as GoesOn}
 use Rattle.recovery_world.specs.Many.{goes_on, OnAny, Single, Several, Stops, SingleStops, SeveralStops}
 use Rattle.recovery_world.specs.Files.{Performs, Rests as NoMore, Goes as Writes}
 use Rattle.recovery_world.specs.Finish.{Reached, Opens, Goes}
 use Rattle.recovery_laws.specs.Sound.{Sound}
-use Rattle.recovery_laws.proofs.KeptWorlds.{opening_sound, event_sound, within_sound, any_sound, reached_sound}
+use Rattle.recovery_laws.proofs.KeptWorlds.{opening_sound, within_sound, any_sound, reached_sound}
 use Rattle.handover_world.specs.Faults.{bytes_of}
 use Rattle.handover_world.specs.Counted.{IsCounted, HasNoOthers}
 

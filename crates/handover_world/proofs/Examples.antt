@@ -1,17 +1,18 @@
 -- Images of a few rows, moves and outputs, and what is wrong with them.
-use Rattle.std.proofs.Common.{◌≡◌, ℕ, ◌+◌, ◌≤◌, List, [], ◌∷◌, ◌++◌, length, refl, sym, ap, ◌∙◌, subst, inl, inr, ◌⊎◌}
-use Rattle.std.proofs.Common.{arith, Some, None, Ok, Contains}
+use Rattle.std.proofs.Common.{◌≡◌, ℕ, ◌≤◌, List, [], ◌∷◌, length, refl, ap, subst, inl, inr, ◌⊎◌}
+use Rattle.std.proofs.Common.{arith, Some, None, Ok, Err}
 use Rattle.plain_text.specs.declared.packet.Unit.TheVariants as unit
 use Rattle.plain_machine.specs.declared.plain_move.PlainMove.{PlainMove}
+use Rattle.plain_machine.specs.declared.plain_move.PlayCause.{PlayCause}
 use Rattle.plain_machine.specs.declared.plain_move.PlayCause.TheVariants.{NoSuchThread}
 use Rattle.plain_machine.specs.Program.{Meaning}
-use Rattle.plain_machine.specs.History.{Step}
-use Rattle.recovery_world.specs.World.{Setting, Ended as EndedEpoch, World, opening}
+use Rattle.plain_machine.specs.History.{Step, plain_move}
+use Rattle.recovery_world.specs.World.{Setting, Ended as EndedEpoch, World, opening, inputs_fed}
 use Rattle.recovery_laws.proofs.KeptWorlds.{opening_sound}
 use Rattle.handover.specs.declared.image.Ended.{Ended}
 use Rattle.handover.specs.declared.image.Image.{Image}
 use Rattle.handover_world.specs.declared.fault.ResumeError.TheVariants.{Count, Move, Released}
-use Rattle.handover_world.specs.Faults.{bytes_of, PlaysTo, MayBe, wrong_row_of, IsOutputIn, AreReleased, HasNoFault}
+use Rattle.handover_world.specs.Faults.{bytes_of, PlaysTo, MayBe, wrong_row_of, AreReleased, HasNoFault}
 use Rattle.handover_world.specs.Faults.{IsFault}
 use Rattle.handover_world.specs.Images.{ended_rows, IsAtRest}
 use Rattle.handover_world.specs.Handing.{ComesToRest}
@@ -83,7 +84,9 @@ module _ {V : Type 0} (m : Meaning V) where
     plays = refl;
     stuck = λ next later e.
         let same : ◌≡◌ {A = PlainMove} (record { thread = 1; answer = None }) next = cc in
-        subst (λ (x : PlainMove). (cause : _) × _) same (NoSuchThread, refl);
+        subst (λ (x : PlainMove).
+        (cause : PlayCause) × (plain_move m (inputs_fed one_thread image.fed) 1 [] x ≡ Err cause)) same
+        (NoSuchThread, refl);
   }
 
   counts_may_be : (ended : List Ended) (released : List (ℕ × ℕ)) (past : List PlainMove)

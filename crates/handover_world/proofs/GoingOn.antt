@@ -1,5 +1,5 @@
 -- A script in two parts, and what it leaves.
-use Rattle.std.proofs.Common.{◌≡◌, ℕ, List, [], ◌∷◌, ◌++◌, append_assoc, append-nil, refl, sym, ◌∙◌, ap, subst}
+use Rattle.std.proofs.Common.{ℕ, List, [], ◌∷◌, ◌++◌, append_assoc, append-nil, refl, sym, ◌∙◌, ap, subst}
 use Rattle.plain_text.specs.declared.limit.Limit.{Limit}
 use Rattle.plain_machine.specs.History.{Step}
 use Rattle.recovery_world.specs.declared.event.Event.{Event}

@@ -1,12 +1,12 @@
 -- An image without a fault stands for a world.
-use Rattle.std.proofs.Common.{◌≡◌, ℕ, zero, suc, ◌+◌, ◌-◌, ◌*◌, ◌/◌, ◌%◌, ◌≤◌, ◌<◌, ◌≢◌, Bool, true, false, cond, List, []}
+use Rattle.std.proofs.Common.{◌≡◌, ℕ, zero, suc, ◌+◌, ◌-◌, ◌*◌, ◌/◌, ◌%◌, ◌≤◌, ◌<◌, ◌≢◌, Bool, true, false, cond, List}
+use Rattle.std.proofs.Common.{[]}
 use Rattle.std.proofs.Common.{◌∷◌, ◌++◌, length, refl, sym, ap, ◌∙◌, subst, inl, inr, ◌⊎◌, arith, Option, Some, None}
-use Rattle.std.proofs.Common.{Result, Ok, Err, Contains, append_assoc, append-nil, suc-mul}
+use Rattle.std.proofs.Common.{Result, Ok, Err, append_assoc, append-nil, suc-mul}
 use Rattle.std.specs.Prelude.{nat_eq, ◌&&◌, if◌then◌else◌}
 use Rattle.std.proofs.lemmas.Bool.Decides.{nat_tests}
 use Rattle.std.proofs.lemmas.Nat.{div-mul-add, mod-mul-add}
 use Rattle.plain_text.specs.declared.packet.Packet.{Packet}
-use Rattle.entry_order.specs.Log.{Entry}
 use Rattle.entry_order.proofs.Order.{is_or}
 use Rattle.entry_order.proofs.Missing.{output_in}
 use Rattle.plain_machine.specs.declared.emission.Emission.{Emission}
@@ -349,9 +349,12 @@ module _ {V : Type 0} (steps : List (Step V)) where
           let th : x.emission.thread ≡ o.0.emission.thread = a ∙ sym o.1.0 in
           let no : x.emission.number ≡ o.0.emission.number = b ∙ sym o.1.1 in
           (good ((x.emission.thread, x.emission.number) ∷ n.0) n.1 (o.0.emission.thread, o.0.emission.number)
-          (ap (λ (l : List (ℕ × ℕ)). let k : List (ℕ × ℕ) = (x.emission.thread, x.emission.number) ∷ l in k) n.2)).1
-          (0, omega arith, ap (λ (n : ℕ). let z : ℕ × ℕ = (n, x.emission.number) in z) th
-          ∙ ap (λ (n : ℕ). let z : ℕ × ℕ = (o.0.emission.thread, n) in z) no)
+          (ap (λ (l : List (ℕ × ℕ)). let k : List (ℕ × ℕ) = (x.emission.thread, x.emission.number) ∷ l in k) n.2)).1 (
+            0,
+            omega arith,
+            ap (λ (n : ℕ). let z : ℕ × ℕ = (n, x.emission.number) in z) th
+                ∙ ap (λ (n : ℕ). let z : ℕ × ℕ = (o.0.emission.thread, n) in z) no,
+          )
 
       go : (x.emission.thread ≡ t) ⊎ (x.emission.thread ≢ t) → (x.emission.number ≡ j) ⊎ (x.emission.number ≢ j)
           → times t j xs ≤ 1 → times t j (x ∷ xs) ≤ 1

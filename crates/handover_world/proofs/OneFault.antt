@@ -1,6 +1,7 @@
 -- Each image has no fault, or one.
-use Rattle.std.proofs.Common.{◌≡◌, ℕ, zero, suc, ◌+◌, ◌-◌, ◌*◌, ◌/◌, ◌%◌, ◌^◌, ◌≤◌, ◌<◌, ◌≢◌, Bool, true, false, cond, List}
-use Rattle.std.proofs.Common.{[], ◌∷◌, ◌++◌, length, refl, sym, ap, ◌∙◌, subst, inl, inr, ◌⊎◌, arith, Option, Some, None}
+use Rattle.std.proofs.Common.{◌≡◌, ℕ, zero, suc, ◌+◌, ◌-◌, ◌*◌, ◌/◌, ◌%◌, ◌^◌, ◌≤◌, ◌<◌, ◌≢◌, Bool, true, false, List}
+use Rattle.std.proofs.Common.{[], ◌∷◌, ◌++◌, length, refl, sym, ap, ◌∙◌, subst, inl, inr, ◌⊎◌, arith, Option, Some}
+use Rattle.std.proofs.Common.{None}
 use Rattle.std.proofs.Common.{Result, Ok, Err, Contains, append_assoc, append-nil}
 use Rattle.std.specs.Prelude.{nat_eq, ◌&&◌, if◌then◌else◌}
 use Rattle.plain_text.specs.declared.limit.TheConstants.{MOST_MOVES, MOST_OUTPUT_BYTES}
@@ -9,7 +10,6 @@ use Rattle.entry_order.proofs.ClosedParts.{Or}
 use Rattle.plain_machine.specs.declared.plain_move.PlainMove.{PlainMove}
 use Rattle.plain_machine.specs.declared.plain_move.PlayCause.{PlayCause}
 use Rattle.plain_machine.specs.declared.plain_move.PlayFault.{PlayFault}
-use Rattle.plain_machine.specs.Program.{Meaning}
 use Rattle.plain_machine.specs.History.{Step, sent_of, outputs, plain_move, numbered, and_move, and_moves, play}
 use Rattle.plain_machine.proofs.PlayedLists.{stuck, play_append, fault_is_first}
 use Rattle.recovery_world.specs.World.{Setting, inputs_fed}
@@ -75,23 +75,31 @@ module _ {V : Type 0} (s : Setting V) (image : Image) where
     where
       go : (r : Result (List (Step V)) PlayFault) → play s.meaning inputs s.threads image.past ≡ r
           → (steps : List (Step V)) × PlaysTo s image steps
-      go (Ok steps) e = (steps, record {
-        made = image.past;
-        rest = [];
-        moves_are = sym (append-nil image.past);
-        plays = e;
-        stuck = λ next later none. absurd (cc);
-      })
-      go (Err fault) e = let r = fault_is_first s.meaning inputs s.threads image.past [] fault e in (r.3, record {
-        made = r.0;
-        rest = r.1 ∷ r.2;
-        moves_are = r.4;
-        plays = r.5;
-        stuck = λ next later is.
-            let same : r.1 ≡ next = cc in
-            (fault.cause, subst (λ (m : PlainMove).
-                plain_move s.meaning inputs s.threads r.3 m ≡ Err fault.cause) same r.6);
-      })
+      go (Ok steps) e = (
+        steps,
+        record {
+          made = image.past;
+          rest = [];
+          moves_are = sym (append-nil image.past);
+          plays = e;
+          stuck = λ next later none. absurd (cc);
+        },
+      )
+      go (Err fault) e = let r = fault_is_first s.meaning inputs s.threads image.past [] fault e in (
+        r.3,
+        record {
+          made = r.0;
+          rest = r.1 ∷ r.2;
+          moves_are = r.4;
+          plays = r.5;
+          stuck = λ next later is.
+              let same : r.1 ≡ next = cc in (
+                fault.cause,
+                subst (λ (m : PlainMove).
+                    plain_move s.meaning inputs s.threads r.3 m ≡ Err fault.cause) same r.6,
+              );
+        },
+      )
 
   bytes_or : Or ((steps : List (Step V)) → PlaysTo s image steps → bytes_of steps ≤ image.bytes)
   bytes_or = go (at_most_or (bytes_of plays_there.0) image.bytes)
@@ -218,15 +226,18 @@ module _ {V : Type 0} (steps : List (Step V)) where
     where
       wrong : (IsOutputIn steps x → ⊥) ⊎ Contains before x
           → AreReleased steps all ⊎ ((place : ℕ) × WrongReleased steps all place)
-      wrong w = inr (length before + 1, record {
-        before = before;
-        output = x;
-        rest = rest;
-        outputs_are = e;
-        place_is = refl;
-        good = good;
-        wrong = w;
-      })
+      wrong w = inr (
+        length before + 1,
+        record {
+          before = before;
+          output = x;
+          rest = rest;
+          outputs_are = e;
+          place_is = refl;
+          good = good;
+          wrong = w;
+        },
+      )
 
       go : Or (IsOutputIn steps x) → Or (Contains before x)
           → (AreReleased steps (before ++ x ∷ [])

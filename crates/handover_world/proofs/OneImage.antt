@@ -1,5 +1,5 @@
 -- A world has one image, and the worlds at rest of one image differ in nothing but what is held.
-use Rattle.std.proofs.Common.{◌≡◌, ℕ, zero, suc, ◌+◌, ◌≤◌, ◌<◌, ◌≢◌, List, [], ◌∷◌, ◌++◌, length, refl, sym, ap, ◌∙◌, subst}
+use Rattle.std.proofs.Common.{◌≡◌, ℕ, zero, suc, ◌+◌, ◌≤◌, ◌<◌, ◌≢◌, List, [], ◌∷◌, length, refl, sym, ap, ◌∙◌, subst}
 use Rattle.std.proofs.Common.{inl, inr, ◌⊎◌, arith, Option, Some, None, Result, Ok}
 use Rattle.std.specs.Prelude.{slice_get}
 use Rattle.std.proofs.lemmas.List.{length-append}
@@ -7,7 +7,7 @@ use Rattle.entry_order.proofs.Order.{is_or}
 use Rattle.plain_machine.specs.declared.emission.Emission.{Emission}
 use Rattle.plain_machine.specs.declared.plain_move.PlainMove.{PlainMove}
 use Rattle.plain_machine.specs.declared.plain_move.PlayFault.{PlayFault}
-use Rattle.plain_machine.specs.History.{Step, play, IsHistory}
+use Rattle.plain_machine.specs.History.{Step, IsHistory}
 use Rattle.plain_machine.specs.Agree.{SendsAfter}
 use Rattle.recovery_world.specs.World.{Setting, Sent, Ended as EndedEpoch, World, inputs_fed}
 use Rattle.recovery_world.specs.Events.{IsAmong}
@@ -55,28 +55,31 @@ image_one s w a b x y = same_image (x.fed ∙ sym y.fed) (x.clock ∙ sym y.cloc
     (x.released ∙ sym y.released) (x.past ∙ sym y.past)
 
 pub image_there : {V : Type 0} (s : Setting V) (w : World V) → IsCounted w → (image : Image) × IsImageOf s w image
-image_there s w counted = (record {
-  fed = w.fed;
-  clock = w.clock;
-  draws = w.drawn;
-  epoch = w.epoch;
-  moves = w.moves;
-  bytes = w.bytes;
-  ended = ended_rows s.threads w.ended;
-  released = sent_names w.released;
-  past = moves_made w.past;
-}, record {
-  fed = refl;
-  clock = refl;
-  draws = refl;
-  epoch = refl;
-  epochs = counted.epochs;
-  moves = refl;
-  bytes = refl;
-  ended = refl;
-  released = refl;
-  past = refl;
-})
+image_there s w counted = (
+  record {
+    fed = w.fed;
+    clock = w.clock;
+    draws = w.drawn;
+    epoch = w.epoch;
+    moves = w.moves;
+    bytes = w.bytes;
+    ended = ended_rows s.threads w.ended;
+    released = sent_names w.released;
+    past = moves_made w.past;
+  },
+  record {
+    fed = refl;
+    clock = refl;
+    draws = refl;
+    epoch = refl;
+    epochs = counted.epochs;
+    moves = refl;
+    bytes = refl;
+    ended = refl;
+    released = refl;
+    past = refl;
+  },
+)
 
 -- Rows
 

@@ -1,6 +1,7 @@
 -- A ready world comes to rest.
-use Rattle.std.proofs.Common.{◌≡◌, ℕ, ◌+◌, true, false, List, [], ◌∷◌, ◌++◌, length, refl, sym, ap, ◌∙◌, subst, inl, inr}
-use Rattle.std.proofs.Common.{◌⊎◌, Option, Some, None, Result, Ok}
+use Rattle.std.proofs.Common.{◌≡◌, ℕ, ◌+◌, true, false, List, [], ◌∷◌, ◌++◌, length, refl, sym, ap, ◌∙◌, subst, inl}
+use Rattle.std.proofs.Common.{inr}
+use Rattle.std.proofs.Common.{◌⊎◌, Option, Some, None, Ok}
 use Rattle.entry_order.specs.Log.{Entry, IsIn}
 use Rattle.entry_order.proofs.ClosedParts.{Or}
 use Rattle.entry_order.proofs.KeptEntries.{in_either}
@@ -13,7 +14,6 @@ use Rattle.recovery_world.specs.declared.event.Outcome.{Outcome}
 use Rattle.recovery_world.specs.World.{Setting, Sent, World}
 use Rattle.recovery_world.specs.Events.{MayGo, Parts, Releases, IsAmong, OnSnap, OnStore, OnCrash, OnRecover, Recovers}
 use Rattle.recovery_world.specs.Events.{ended_now, On}
-use Rattle.recovery_world.specs.Finish.{IsToCome}
 use Rattle.recovery_world.specs.Limits.{limit_passed, IsWithin}
 use Rattle.recovery_world.specs.Many.{begins, OnAny, Single, Several}
 use Rattle.recovery_world.specs.Files.{Performs, Rests, Goes}
@@ -88,7 +88,8 @@ performs_front : {V : Type 0} (s : Setting V) (w new : World V) (all later : Lis
     → Performs s w all lines new → all ≡ ev ∷ later
     → (mid : World V) × LeadsTo s w ev mid × (said : List ℕ) × Performs s mid later said new
 performs_front s w new all later ev lines (Rests same) e = absurd (cc)
-performs_front {V} s w new all later ev lines (Goes {mid = mid} {events = events} {lines = said} first to freed on go) e =
+performs_front {V} s w new all later ev lines
+    (Goes {mid = mid} {events = events} {lines = said} first to freed on go) e =
     let a : first ≡ ev = cc in
     let b : events ≡ later = cc in (
       mid,
@@ -102,15 +103,18 @@ performs_end : {V : Type 0} (s : Setting V) (w new : World V) (all : List Event)
 performs_end s w new all lines (Rests same) e = refl
 performs_end s w new all lines (Goes first to freed on go) e = absurd (cc)
 
+recovers_last : {V : Type 0} (s : Setting V) (w new : World V)
+    → (mid : World V) × LeadsTo s w Recover mid × (said : List ℕ) × Performs s mid [] said new → LeadsTo s w Recover new
+recovers_last {V} s w new (mid, leads, said, p) =
+    subst (λ (z : World V). LeadsTo s w Recover z) (performs_end s mid new [] said p refl) leads
+
 pub rest_of_script : {V : Type 0} (s : Setting V) (w new : World V) (lines : List ℕ)
     → Performs s w (Snap ∷ Store ∷ Crash ∷ Recover ∷ []) lines new → ComesToRest s w new
-rest_of_script {V} s w new lines p =
+rest_of_script s w new lines p =
     let a = performs_front s w new (Snap ∷ Store ∷ Crash ∷ Recover ∷ []) (Store ∷ Crash ∷ Recover ∷ []) Snap lines p
     refl in
     let b = performs_front s a.0 new (Store ∷ Crash ∷ Recover ∷ []) (Crash ∷ Recover ∷ []) Store a.2 a.3 refl in
     let c = performs_front s b.0 new (Crash ∷ Recover ∷ []) (Recover ∷ []) Crash b.2 b.3 refl in
-    let d = performs_front s c.0 new (Recover ∷ []) [] Recover c.2 c.3 refl in
-    let last : d.0 ≡ new = performs_end s d.0 new [] d.2 d.3 refl in
     record {
       copied = a.0;
       snap = a.1;
@@ -118,7 +122,7 @@ rest_of_script {V} s w new lines p =
       store = b.1;
       down = c.0;
       crash = c.1;
-      recover = subst (λ (z : World V). LeadsTo s c.0 Recover z) last d.1;
+      recover = recovers_last s c.0 new (performs_front s c.0 new (Recover ∷ []) [] Recover c.2 c.3 refl);
     }
 
 pub script_of_rest : {V : Type 0} (s : Setting V) (w new : World V) → ComesToRest s w new

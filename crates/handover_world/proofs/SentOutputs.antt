@@ -1,7 +1,7 @@
 -- An output of a past: whether it was sent, and that none other has its name.
-use Rattle.std.proofs.Common.{◌≡◌, ℕ, ◌≢◌, List, [], ◌∷◌, refl, sym, ap, ◌∙◌, subst, inl, inr, ◌⊎◌}
+use Rattle.std.proofs.Common.{◌≡◌, ℕ, ◌≢◌, List, [], ◌∷◌, refl, ap, inl, inr, ◌⊎◌}
 use Rattle.plain_text.specs.declared.packet.Packet.{Packet}
-use Rattle.entry_order.specs.Log.{Entry, entries}
+use Rattle.entry_order.specs.Log.{entries}
 use Rattle.entry_order.proofs.Order.{is_or}
 use Rattle.entry_order.proofs.ClosedParts.{Or}
 use Rattle.entry_order.proofs.Missing.{output_in}

@@ -1,6 +1,6 @@
 -- One list that is split at two places, and what it contains.
 use Rattle.std.proofs.Common.{◌≡◌, ℕ, zero, suc, ◌+◌, ◌≤◌, ◌<◌, ◌≢◌, List, [], ◌∷◌, ◌++◌, length, refl, sym, ap, ◌∙◌}
-use Rattle.std.proofs.Common.{subst, inl, inr, ◌⊎◌, arith, Contains}
+use Rattle.std.proofs.Common.{inl, inr, ◌⊎◌, arith, Contains}
 use Rattle.std.proofs.lemmas.Bool.{cases_lt}
 use Rattle.entry_order.proofs.Order.{is_or}
 use Rattle.entry_order.proofs.ClosedParts.{Or}

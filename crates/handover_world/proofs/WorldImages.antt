@@ -1,16 +1,17 @@
 -- The image of a world that events lead to has no fault.
-use Rattle.std.proofs.Common.{◌≡◌, ℕ, zero, suc, ◌+◌, ◌-◌, ◌*◌, ◌/◌, ◌%◌, ◌^◌, ◌≤◌, ◌<◌, true, false, cond, List, [], ◌∷◌}
-use Rattle.std.proofs.Common.{◌++◌, length, refl, sym, ap, ◌∙◌, subst, inl, inr, ◌⊎◌, arith, Option, Some, None, Result}
+use Rattle.std.proofs.Common.{◌≡◌, ℕ, zero, suc, ◌+◌, ◌-◌, ◌*◌, ◌/◌, ◌%◌, ◌^◌, ◌≤◌, ◌<◌, true, false, cond, List, []}
+use Rattle.std.proofs.Common.{◌∷◌}
+use Rattle.std.proofs.Common.{◌++◌, length, refl, sym, ap, ◌∙◌, subst, inl, inr, arith, None, Result}
 use Rattle.std.proofs.Common.{Ok, Contains, append_assoc, append-nil, suc-mul}
-use Rattle.std.specs.Prelude.{nat_eq, ◌&&◌, if◌then◌else◌}
+use Rattle.std.specs.Prelude.{nat_eq, ◌&&◌}
 use Rattle.std.proofs.lemmas.Bool.Decides.{nat_tests}
 use Rattle.std.proofs.lemmas.Grind.{common_steps}
 use Rattle.std.proofs.lemmas.Nat.{div-mul-add, mod-mul-add}
 use Rattle.plain_text.specs.declared.limit.TheConstants.{MOST_MOVES, MOST_OUTPUT_BYTES}
 use Rattle.plain_machine.specs.declared.plain_move.PlainMove.{PlainMove}
 use Rattle.plain_machine.specs.declared.plain_move.PlayFault.{PlayFault}
-use Rattle.plain_machine.specs.History.{Step, sent_of, outputs, play, IsHistory}
-use Rattle.plain_machine.specs.Agree.{IsEarlier, SendsAfter}
+use Rattle.plain_machine.specs.History.{Step, play}
+use Rattle.plain_machine.specs.Agree.{IsEarlier}
 use Rattle.plain_machine.proofs.PlayedLists.{play_prefix}
 use Rattle.recovery_world.specs.World.{Setting, Sent, Ended as EndedEpoch, World, inputs_fed}
 use Rattle.recovery_world.specs.Events.{IsAmong}
@@ -25,7 +26,7 @@ use Rattle.recovery_laws.proofs.Settlings.{number_high}
 use Rattle.handover.specs.declared.image.Ended.{Ended}
 use Rattle.handover.specs.declared.image.Image.{Image}
 use Rattle.handover_world.specs.Counted.{IsCounted}
-use Rattle.handover_world.specs.Faults.{bytes_of, PlaysTo, MayBe, wrong_row, wrong_row_of, IsOutputIn, AreReleased}
+use Rattle.handover_world.specs.Faults.{PlaysTo, MayBe, wrong_row, wrong_row_of, IsOutputIn, AreReleased}
 use Rattle.handover_world.specs.Faults.{HasNoFault}
 use Rattle.handover_world.specs.Images.{rows_of, ended_rows, IsImageOf, IsAtRest}
 use Rattle.handover_world.proofs.Counting.{earlier_bytes}
@@ -286,7 +287,6 @@ module _ {V : Type 0} (s : Setting V) (w : World V) (h : Sound s w) where
         omega (arith, b, c);
     epochs = is.epochs;
   }
-
 
 -- a world of an image without a fault is within the limits
 within_limits : (moves bytes : ℕ) → moves ≤ MOST_MOVES → bytes ≤ MOST_OUTPUT_BYTES → limit_passed moves bytes ≡ None

@@ -5,7 +5,8 @@ ghost use Rattle.std.specs.Prelude.{◌++◌, slice_get, Some, Ok};
 ghost use Rattle.plain_text.specs.declared.limit.Limit.{Limit};
 ghost use Rattle.plain_machine.specs.History.{Step, play};
 ghost use Rattle.recovery_world.specs.declared.event.Event.{Event};
-ghost use Rattle.recovery_world.specs.declared.event.Event.TheVariants.{Snap, Store, Crash, Recover};
+ghost use Rattle.recovery_world.specs.declared.event.Event.TheVariants.{Snap, Store, Crash};
+ghost use Rattle.recovery_world.specs.declared.event.Event.TheVariants.{Recover};
 ghost use Rattle.recovery_world.specs.declared.event.Outcome.{Outcome};
 ghost use Rattle.recovery_world.specs.World.{Setting, Sent, Ended as EndedEpoch, World, opening};
 ghost use Rattle.recovery_world.specs.World.{inputs_fed};
@@ -98,8 +99,8 @@ pub fn images_of_worlds_have_no_fault<X>()
         → HasNoFault s image → IsWithin w }
 {}
 
-/// An image without a fault stands for a sound world at rest. So the faults are all that can be wrong with an image. And
-/// a list of moves that plays has the moves of its history.
+/// An image without a fault stands for a sound world at rest. So the faults are all that can be wrong with an image.
+/// And a list of moves that plays has the moves of its history.
 pub fn images_stand_for_worlds<X>()
     ensures world { (s : Setting X) (image : Image) → HasNoFault s image
         → (w : World X) × Sound s w × IsAtRest w × IsImageOf s w image }
