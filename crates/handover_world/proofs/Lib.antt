@@ -4,6 +4,7 @@ pub mod GoingOn
 pub mod ImageWorlds
 pub mod OneFault
 pub mod OneImage
+pub mod Readiness
 pub mod Resting
 pub mod SentOutputs
 pub mod SplitLists

@@ -144,7 +144,7 @@ all_go P all (x ∷ xs) go stay (inl (p, rest, is, more)) =
 all_go P all (x ∷ xs) go stay (inr (never, rest, is, more)) = absurd (never (all x))
 
 -- where none may go, each is refused
-none_goes : (P : Sent → Type 0) (xs go stay : List Sent) → Parts P xs go stay → go ≡ [] → (o : Sent) → IsAmong o xs
+pub none_goes : (P : Sent → Type 0) (xs go stay : List Sent) → Parts P xs go stay → go ≡ [] → (o : Sent) → IsAmong o xs
     → P o → ⊥
 none_goes P [] go stay h none o i p = i
 none_goes P (x ∷ xs) go stay (inl (q, rest, is, more)) none o i p = cc
@@ -152,7 +152,7 @@ none_goes P (x ∷ xs) go stay (inr (never, rest, is, more)) none o (inl same) p
 none_goes P (x ∷ xs) go stay (inr (never, rest, is, more)) none o (inr i) p =
     none_goes P xs go rest more none o i p
 
-none_of : {X : Type 0} (xs : List X) → length xs ≡ 0 → xs ≡ []
+pub none_of : {X : Type 0} (xs : List X) → length xs ≡ 0 → xs ≡ []
 none_of [] e = refl
 none_of (x ∷ xs) e = absurd (cc)
 

@@ -1,8 +1,10 @@
 //! The laws of a planned handover, over its definitions alone. Each is proved, and does nothing: a caller has it by the
 //! call.
 ghost use Rattle.std.specs.Prelude.{◌≡◌, ◌≢◌, ◌≤◌, ◌<◌, ◌⊎◌, ℕ, ◌+◌, ◌^◌, length, List, [], ◌∷◌};
-ghost use Rattle.std.specs.Prelude.{◌++◌, slice_get, Some, Ok};
+ghost use Rattle.std.specs.Prelude.{◌++◌, ◌↔◌, true, slice_get, Some, Ok, Result, ⊤};
 ghost use Rattle.plain_text.specs.declared.limit.Limit.{Limit};
+ghost use Rattle.entry_order.specs.Log.{Entry};
+ghost use Rattle.plain_machine.specs.Agree.{SendsAfter};
 ghost use Rattle.plain_machine.specs.History.{Step, play};
 ghost use Rattle.recovery_world.specs.declared.event.Event.{Event};
 ghost use Rattle.recovery_world.specs.declared.event.Event.TheVariants.{Snap, Store, Crash};
@@ -10,21 +12,34 @@ ghost use Rattle.recovery_world.specs.declared.event.Event.TheVariants.{Recover}
 ghost use Rattle.recovery_world.specs.declared.event.Outcome.{Outcome};
 ghost use Rattle.recovery_world.specs.World.{Setting, Sent, Ended as EndedEpoch, World, opening};
 ghost use Rattle.recovery_world.specs.World.{inputs_fed};
-ghost use Rattle.recovery_world.specs.Events.{ended_now};
+ghost use Rattle.recovery_world.specs.Events.{IsAmong, ended_now};
 ghost use Rattle.recovery_world.specs.Files.{Performs, Leaves, LeavesAt, done_line, moves_made};
 ghost use Rattle.recovery_world.specs.Files.{packets_of};
-ghost use Rattle.recovery_world.specs.Finish.{Reached, IsFinish};
+ghost use Rattle.recovery_world.specs.Finish.{Reached, IsFinish, IsToCome};
 ghost use Rattle.recovery_world.specs.Limits.{IsWithin};
 ghost use Rattle.recovery_world.specs.Many.{OnAny, Stops};
 ghost use Rattle.recovery_laws.specs.Sound.{Sound};
 ghost use Rattle.handover.specs.declared.image.Image.{Image};
 ghost use Rattle.handover_world.specs.declared.fault.ResumeError.{ResumeError};
 ghost use Rattle.handover_world.specs.declared.fault.ResumeError.TheVariants.{NoMemory};
+ghost use Rattle.handover_world.specs.declared.unready.Unready.{Unready};
 ghost use Rattle.handover_world.specs.Counted.{IsCounted, HasNoOthers};
 ghost use Rattle.handover_world.specs.Faults.{HasNoFault, IsFault};
 ghost use Rattle.handover_world.specs.Handing.{ComesToRest};
 ghost use Rattle.handover_world.specs.Images.{IsImageOf, IsAtRest};
 ghost use Rattle.handover_world.specs.Ready.{IsReadiness};
+
+/// Each sound system has one readiness. It is ready where its master is up, nothing that it follows is to come, and its
+/// past has sent out all that was released.
+pub fn systems_have_one_readiness<X>()
+    ensures there { (s : Setting X) (w : World X) → Sound s w
+        → (readiness : Result ⊤ Unready) × IsReadiness w readiness }
+    ensures one { (w : World X) (a b : Result ⊤ Unready) → IsReadiness w a → IsReadiness w b
+        → a ≡ b }
+    ensures ready { (w : World X) → IsReadiness w (Ok tt) ↔ ((w.up ≡ true)
+        × ((e : Entry) → IsToCome w e → ⊥)
+        × ((o : Sent) → IsAmong o w.released → SendsAfter w.past o.emission o.after)) }
+{}
 
 /// A system that is ready comes to rest by four events: a snapshot is made and stored, the master crashes, and a new
 /// one recovers. Its past stays, its epoch is over, and what waited is released behind what was.

@@ -10,5 +10,6 @@ pub use fault::ResumeError;
 pub use laws::{
     handing_over_is_running, images_have_one_fault, images_of_worlds_have_no_fault,
     images_stand_for_worlds, one_image, reached_worlds_are_counted, ready_worlds_come_to_rest,
+    systems_have_one_readiness,
 };
 pub use unready::Unready;
