@@ -1,6 +1,7 @@
 pub mod Counting
 pub mod Examples
 pub mod GoingOn
+pub mod HandedImages
 pub mod ImageWorlds
 pub mod OneFault
 pub mod OneImage

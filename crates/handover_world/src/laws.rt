@@ -91,9 +91,9 @@ pub fn reached_worlds_are_counted<X>()
         → HasNoOthers s new }
 {}
 
-/// The image of a world that events led to, and that is at rest behind a recovery, has no fault. Its moves play to the
-/// past of the world. And whatever sound world an image without a fault stands for, that world is counted, and within
-/// the limits.
+/// The image of a world that events led to, and that is at rest behind a recovery, has no fault: so it is of a ready
+/// system that came to rest. Its moves play to the past of the world. And whatever sound world an image without a fault
+/// stands for, that world is counted, and within the limits.
 pub fn images_of_worlds_have_no_fault<X>()
     ensures counted { (s : Setting X) (w : World X) (image : Image) → Sound s w → IsCounted w
         → IsWithin w → IsAtRest w → IsImageOf s w image → 2 ≤ w.epoch → w.epoch < 2 ^ 32
@@ -104,6 +104,9 @@ pub fn images_of_worlds_have_no_fault<X>()
     ensures performed { (s : Setting X) (events : List Event) (lines : List ℕ) (w : World X)
         (image : Image) → Performs s (opening X) events lines w → IsAtRest w → IsImageOf s w image
         → 2 ≤ w.epoch → w.epoch < 2 ^ 32 → HasNoFault s image }
+    ensures handed { (s : Setting X) (w new : World X) (image : Image) → Sound s w → IsCounted w
+        → IsReadiness w (Ok tt) → ComesToRest s w new → IsImageOf s new image
+        → new.epoch < 2 ^ 32 → HasNoFault s image }
     ensures past { (s : Setting X) (w : World X) → Sound s w
         → play s.meaning (inputs_fed s w.fed) s.threads (moves_made w.past) ≡ Ok w.past }
     ensures moves { (s : Setting X) (w : World X) (image : Image) → Sound s w → IsImageOf s w image
@@ -134,8 +137,9 @@ pub fn images_have_one_fault<X>()
         → IsFault s image b → a ≢ NoMemory → b ≢ NoMemory → a ≡ b }
 {}
 
-/// A counted world has an image, and one. The sound worlds at rest of one image differ in nothing but what is held and
-/// followed, and, with what threads that there are none of ended epochs.
+/// Each counted world has one image. Two sound worlds at rest of one image have one past, one list of released outputs,
+/// and the same counts: they differ only in which stored entries are held or followed, and in what threads that there
+/// are none of ended epochs with.
 pub fn one_image<X>()
     ensures there { (s : Setting X) (w : World X) → IsCounted w
         → (image : Image) × IsImageOf s w image }

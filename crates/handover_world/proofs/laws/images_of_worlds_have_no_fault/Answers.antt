@@ -1,6 +1,7 @@
 use Rattle.recovery_laws.proofs.KeptWorlds.{opening_sound, performs_sound, reached_sound}
 use Rattle.handover_world.proofs.Counting.{performed_counted, reached_counted}
 use Rattle.handover_world.proofs.GoingOn.{performed_within}
+use Rattle.handover_world.proofs.HandedImages.{handed_fine}
 use Rattle.handover_world.proofs.WorldImages.{no_fault, past_plays, image_plays, counted_again, within_again}
 use Rattle.handover_world.proofs.laws.images_of_worlds_have_no_fault.Goals as goal
 
@@ -15,6 +16,9 @@ pub returns-clause-performed : goal.returns-clause-performed
 returns-clause-performed g c = λ s events lines w image p rest.
     no_fault s w (performs_sound s _ w events lines (opening_sound s) p) (performed_counted s w events lines p)
     (performed_within s w events lines p) rest image
+
+pub returns-clause-handed : goal.returns-clause-handed
+returns-clause-handed g c = handed_fine
 
 pub returns-clause-past : goal.returns-clause-past
 returns-clause-past g c = past_plays
