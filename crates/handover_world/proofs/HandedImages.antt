@@ -1,5 +1,5 @@
 -- The image that a system is handed over as has no fault.
-use Rattle.std.proofs.Common.{◌≡◌, ℕ, ◌+◌, ◌^◌, ◌≤◌, ◌<◌, List, length, arith, ap, refl, None, Ok}
+use Rattle.std.proofs.Common.{◌≡◌, ◌+◌, ◌^◌, ◌<◌, List, arith, ap, refl, None, Ok}
 use Rattle.recovery_world.specs.declared.event.Event.{Event}
 use Rattle.recovery_world.specs.declared.event.Event.TheVariants.{Snap, Store, Crash, Recover}
 use Rattle.recovery_world.specs.declared.event.Outcome.{Outcome}

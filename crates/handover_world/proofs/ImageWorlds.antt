@@ -300,9 +300,6 @@ module _ {V : Type 0} (steps : List (Step V)) where
       one : (o : Emission) × (n : ℕ) × SendsAfter steps o n × (o.thread ≡ x.0) × (o.number ≡ x.1)
       one = sent_there m inputs threads x.0 x.1 steps h is.0 is.1
 
-      first : Sent
-      first = record { emission = one.0; after = one.1 }
-
       name : ◌≡◌ {A = ℕ × ℕ} (one.0.thread, one.0.number) x
       name =
           ap (λ (n : ℕ). let z : ℕ × ℕ = (n, one.0.number) in z) one.3

@@ -1,12 +1,12 @@
 -- Each sound world has one readiness.
-use Rattle.std.proofs.Common.{◌≡◌, ℕ, zero, suc, ◌+◌, ◌≤◌, ◌≢◌, Bool, true, false, List, [], ◌∷◌, ◌++◌, length, refl}
+use Rattle.std.proofs.Common.{◌≡◌, ℕ, zero, suc, ◌+◌, ◌≤◌, Bool, true, false, List, [], ◌∷◌, ◌++◌, length, refl}
 use Rattle.std.proofs.Common.{sym, ap}
 use Rattle.std.proofs.Common.{◌∙◌, subst, inl, inr, ◌⊎◌, arith, Result, Ok, Err, ◌↔◌}
 use Rattle.std.specs.Prelude.{⊤}
-use Rattle.entry_order.specs.Log.{Entry, entries, IsLog, IsIn}
+use Rattle.entry_order.specs.Log.{Entry, IsLog, IsIn}
 use Rattle.entry_order.proofs.ClosedParts.{Or}
 use Rattle.entry_order.proofs.KeptEntries.{in_left}
-use Rattle.entry_order.proofs.Order.{is_or, number_within}
+use Rattle.entry_order.proofs.Order.{number_within}
 use Rattle.plain_machine.specs.History.{log_of}
 use Rattle.plain_machine.specs.Agree.{SendsAfter}
 use Rattle.recovery_world.specs.World.{Setting, Sent, World}
