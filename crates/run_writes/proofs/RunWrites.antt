@@ -12,14 +12,14 @@ use Rattle.plain_machine.specs.declared.plain_move.PlainMove.{PlainMove}
 use Rattle.plain_player.specs.ScheduleText.{schedule_text}
 use Rattle.world_io.specs.World.{Shown}
 use Rattle.recovery_world.specs.declared.event.Event.{Event}
-use Rattle.recovery_world.specs.World.{Setting, opening}
+use Rattle.recovery_world.specs.World.{Setting, World as SystemWorld}
 use Rattle.recovery_world.specs.Files.{done_line, moves_made, packets_of}
 use Rattle.recovery_laws.proofs.ReleasedOutputs.{stops_grow}
 use Rattle.output_files.specs.Writes.{report_file, Write, after_writes, reported, HasWritten, HasBegun}
 use Rattle.output_files.proofs.Effects.{Compared, IsSame, Differs, compared, reported_more, begun_before, after_more}
-use Rattle.run_writes.specs.Replies.{Reply, Opens, newly_released, released_in, lines_in}
+use Rattle.run_writes.specs.Replies.{Reply, Opens, at_world, newly_released, released_in, lines_in}
 use Rattle.run_writes.specs.Run.{OutputNames, FitsRecord, opening_writes, release_writes, replies_writes, writes_of}
-use Rattle.run_writes.specs.Run.{closing_writes, WritesUntil, WritesAll, HasFiles, HasRun, HasStopped, HasBegunRun}
+use Rattle.run_writes.specs.Run.{closing_writes, WritesUntil, WritesAll, HasFiles, HasRun, HasStopped, HasBegunFrom}
 use Rattle.run_writes.proofs.ScriptAnswers.{answers_perform, answers_release, released_then}
 
 pub same_name : (name : List ℕ) → bytes_eq name name ≡ true
@@ -228,16 +228,16 @@ has_stopped s names events limit writes a b apart until w =
     }
 
 -- Where nothing was performed yet, an opening was begun.
-pub nothing_begun : {V : Type 0} (s : Setting V) (names : OutputNames) (events : List Event) (a b : Shown)
-    → HasBegun (opening_writes names s.fractions) a b → HasBegunRun s names events a b
-nothing_begun {V} s names events a b begun = (
+pub nothing_begun : {V : Type 0} (s : Setting V) (w : SystemWorld V) (names : OutputNames) (events : List Event)
+    (a b : Shown) → HasBegun (opening_writes names s.fractions) a b → HasBegunFrom s (at_world w) names events a b
+nothing_begun {V} s w names events a b begun = (
   writes_of names s.fractions [],
   inl (record {
     before = [];
     after = events;
     events_are = refl;
     replies = [];
-    world = opening V;
+    world = w;
     answers = Opens;
     writes_are = refl;
   }),
