@@ -2,7 +2,9 @@
 #![tactic(auto)]
 
 mod fault;
+mod laws;
 mod unready;
 
 pub use fault::ResumeError;
+pub use laws::{reached_worlds_are_counted, ready_worlds_come_to_rest};
 pub use unready::Unready;
