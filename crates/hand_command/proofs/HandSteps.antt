@@ -1,7 +1,7 @@
 -- What a hand-over comes to, step by step.
 use Rattle.std.proofs.Common.{◌≡◌, ℕ, ◌≤◌, List, [], ◌∷◌, ◌++◌, refl, sym, ap, ◌∙◌, append-nil, append_assoc, subst}
 use Rattle.std.proofs.Common.{inl, inr, arith, Result, Ok, Err}
-use Rattle.std.specs.Prelude.{⊤, All}
+use Rattle.std.specs.Prelude.{⊤, ◌⊎◌, All}
 use Rattle.std.proofs.lemmas.List.Elements.{All-append, All-nil}
 use Rattle.plain_text.specs.declared.limit.Limit.{Limit}
 use Rattle.plain_machine.specs.Program.{Meaning}
@@ -10,6 +10,9 @@ use Rattle.recovery_world.specs.declared.event.Event.{Event}
 use Rattle.recovery_world.specs.World.{Setting, World as SystemWorld, opening}
 use Rattle.recovery_world.specs.Files.{done_line}
 use Rattle.recovery_core.specs.Systems.{Systemed}
+use Rattle.handover.specs.declared.image.Image.{Image}
+use Rattle.handover.specs.Images.{FitsImage}
+use Rattle.handover_world.specs.Images.{IsImageOf}
 use Rattle.handover_world.specs.declared.unready.Unready.{Unready}
 use Rattle.handover_world.specs.Ready.{IsReadiness}
 use Rattle.output_files.specs.declared.error.OutputError.{OutputError}
@@ -18,14 +21,14 @@ use Rattle.output_files.specs.Writes.{Write, HasWritten, HasBegun, HasGathered}
 use Rattle.run_writes.specs.declared.error.RunError.{RunError}
 use Rattle.run_writes.specs.declared.error.RunError.TheVariants as run
 use Rattle.run_writes.specs.Errors.{run_error_of, run_result_of}
-use Rattle.run_writes.specs.Replies.{Reply, AnswersFrom, Opens, Point, beginning, released_in}
+use Rattle.run_writes.specs.Replies.{Reply, AnswersFrom, Opens, Point, beginning, lines_in, released_in}
 use Rattle.run_writes.specs.Run.{OutputNames, FitsRecord, writes_of, WritesSomeFrom, WritesUntilFrom}
 use Rattle.run_writes.proofs.ScriptAnswers.{answers_perform, answers_then, released_join}
 use Rattle.run_command.specs.Running.{GoesOn, HasBegunSome, HasCome}
 use Rattle.run_command.proofs.Going.{some_longer, until_longer}
 use Rattle.hand_command.specs.Errors.{hand_error_of, hand_result_of}
 use Rattle.hand_command.specs.Hand.{HandsOver, HasBegunHand, WritesHandover, image_writes, resting}
-use Rattle.hand_command.specs.Handing.{EndsHand, WritesImage}
+use Rattle.hand_command.specs.Handing.{EndsHand, LeftUnready, WritesImage}
 use Rattle.hand_command.proofs.RestingWorlds.{ComesToRest, StaysCounted, counted_there, rests_there}
 
 -- a first part of what the events and the last four write
@@ -126,19 +129,114 @@ module _ {P V : Type 0} (m : Meaning V) (s : Setting V) (names : OutputNames) (e
         counted_there counted s come.world resting rest.replies rest.world
         (counted_there counted s (opening V) events come.replies come.world low come.answers) rest.answers
 
-    handover : (image : _) (writes : List Write) → Type 0
-    handover image writes = WritesHandover s names events writes
+    fit : All FitsRecord (released_in (come.replies ++ rest.replies))
+    fit =
+        subst (All FitsRecord) (sym (released_join come.replies rest.replies)) (All-append FitsRecord
+        (released_in come.replies) (released_in rest.replies) come.fit_records rest.fit_records)
+
+    hands_over : (image : Image) → IsImageOf s rest.world image → FitsImage image → HandsOver s events
+    hands_over image is fits = record {
+      replies = come.replies;
+      ready = come.world;
+      answers = come.answers;
+      readiness = ready;
+      last = rest.replies;
+      world = rest.world;
+      rests = rest.answers;
+      image = image;
+      handed = record {
+        sound = rest.at.stands.parts.sound;
+        rest = rests_there comes s come.world rest.world (lines_in rest.replies) come.at.stands.parts.sound
+            come.at.stands.parts.within ready
+            (answers_perform s resting rest.replies rest.world rest.answers);
+        image_is = is;
+      };
+      fit_records = fit;
+      fits_image = fits;
+    }
+
+    replied : List Write
+    replied = writes_of names s.fractions (come.replies ++ rest.replies)
+
+    handover : (image : Image) → IsImageOf s rest.world image → FitsImage image
+        → WritesHandover s names events (replied ++ image_writes names image (done_line rest.world))
+    handover image is fits = record { hand = hands_over image is fits; writes_are = refl }
+
+    -- the image was not begun
+    bare : (d : Shown) → HasBegun replied a d → HasBegunHand s names events a d
+    bare d begun = (
+      replied,
+      inl (record {
+        before = events ++ resting;
+        after = [];
+        events_are = sym (append-nil (events ++ resting));
+        replies = come.replies ++ rest.replies;
+        world = rest.world;
+        answers = answers_then s (opening V) come.world events resting come.replies rest.replies rest.world
+            come.answers rest.answers;
+        writes_are = refl;
+      }),
+      begun,
+    )
 
     -- the image is written, as far as it comes
-    pub image_goes : (r : Result ⊤ OutputError) (d : Shown)
-        → WritesImage r s rest.world names (writes_of names s.fractions (come.replies ++ rest.replies)) a d
+    pub image_goes : (r : Result ⊤ OutputError) (d : Shown) → WritesImage r s rest.world names replied a d
         → EndsHand (hand_result_of (run_result_of r)) s names events a d
     image_goes r d h = go r h
       where
-        whole : (image : _) → _
-        whole image = image
+        stops : HasBegun replied a d
+            ⊎ ((image : Image) × IsImageOf s rest.world image × FitsImage image
+            × HasBegun (replied ++ image_writes names image (done_line rest.world)) a d)
+            → HasBegunHand s names events a d
+        stops (inl begun) = bare d begun
+        stops (inr (image, is, fits, begun)) = (
+          replied ++ image_writes names image (done_line rest.world),
+          inr (inr (handover image is fits)),
+          begun,
+        )
 
-        go : (r : Result ⊤ OutputError)
-            → WritesImage r s rest.world names (writes_of names s.fractions (come.replies ++ rest.replies)) a d
+        go : (r : Result ⊤ OutputError) → WritesImage r s rest.world names replied a d
             → EndsHand (hand_result_of (run_result_of r)) s names events a d
-        go (Ok done) h = h
+        go (Ok done) (image, is, fits, written) = (
+          replied ++ image_writes names image (done_line rest.world),
+          handover image is fits,
+          written,
+        )
+        go (Err output.WriteFault) h = stops h
+        go (Err output.NoMemory) h = stops h
+
+  -- the system is not ready, and the lines that are gathered were written
+  pub unready_goes : (unready : Unready) (c : Shown) → IsReadiness come.world (Err unready)
+      → HasWritten (writes_of names s.fractions come.replies) a c → LeftUnready s names events unready a c
+  unready_goes unready c not written = record {
+    replies = come.replies;
+    world = come.world;
+    answers = come.answers;
+    readiness = not;
+    fit_records = come.fit_records;
+    written = written;
+  }
+
+  -- or they could not be
+  pub lines_begun : (e : OutputError) (c : Shown) → HasBegun (writes_of names s.fractions come.replies) a c
+      → EndsHand (Err (hand_error_of (run_error_of e))) s names events a c
+  lines_begun e c begun = go e
+    where
+      some : HasBegunHand s names events a c
+      some = (
+        writes_of names s.fractions come.replies,
+        inl (record {
+          before = events;
+          after = resting;
+          events_are = refl;
+          replies = come.replies;
+          world = come.world;
+          answers = come.answers;
+          writes_are = refl;
+        }),
+        begun,
+      )
+
+      go : (e : OutputError) → EndsHand (Err (hand_error_of (run_error_of e))) s names events a c
+      go output.WriteFault = some
+      go output.NoMemory = some

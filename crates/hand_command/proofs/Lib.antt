@@ -1,4 +1,4 @@
 pub mod RestingWorlds
 pub mod HandSteps
-pub mod HandsOver
+pub mod HandEnds
 pub mod Resuming

@@ -208,7 +208,7 @@ module _ {P V : Type 0} (m : Meaning V) (s : Setting V) (from : Point V) (names 
       subst (λ (x : Result ⊤ RunError). GoesOn x m s from names (events ++ ev ∷ []) new more a c) (sym written.0)
       (nothing_more (ev ∷ []) c written.1)
 
-until_longer : {V : Type 0} (s : Setting V) (from : Point V) (names : OutputNames) (events rest : List Event) (limit : Limit)
+pub until_longer : {V : Type 0} (s : Setting V) (from : Point V) (names : OutputNames) (events rest : List Event) (limit : Limit)
     (writes : List Write) → WritesUntilFrom s from names events limit writes → WritesUntilFrom s from names (events ++ rest) limit writes
 until_longer s from names events rest limit writes until =
     record {
@@ -225,7 +225,7 @@ until_longer s from names events rest limit writes until =
     }
 
 -- what these events write is some of what they write with more behind them
-some_longer : {V : Type 0} (s : Setting V) (from : Point V) (names : OutputNames) (events rest : List Event) (a b : Shown)
+pub some_longer : {V : Type 0} (s : Setting V) (from : Point V) (names : OutputNames) (events rest : List Event) (a b : Shown)
     → HasBegunSome s from names events a b → HasBegunSome s from names (events ++ rest) a b
 some_longer s from names events rest a b (writes, (inl some), begun) = (
   writes,
