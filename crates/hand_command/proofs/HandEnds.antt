@@ -10,10 +10,13 @@ use Rattle.recovery_world.specs.Files.{done_line}
 use Rattle.recovery_core.specs.Systems.{Systemed}
 use Rattle.handover.specs.Images.{image_text}
 use Rattle.handover_world.specs.declared.unready.Unready.{Unready}
+use Rattle.output_files.specs.declared.error.OutputError.{OutputError}
+use Rattle.output_files.specs.declared.error.OutputError.TheVariants as output
 use Rattle.output_files.specs.Writes.{Write, HasWritten, HasBegun}
 use Rattle.output_files.proofs.Effects.{begun_all, begun_before}
 use Rattle.run_writes.specs.declared.error.RunError.{RunError}
 use Rattle.run_writes.specs.declared.error.RunError.TheVariants as run
+use Rattle.run_writes.specs.Errors.{run_error_of}
 use Rattle.run_writes.specs.Replies.{Opens, beginning}
 use Rattle.run_writes.specs.Run.{OutputNames, HasStopped, opening_writes, writes_of}
 use Rattle.run_writes.proofs.RunWrites.{bare_files, has_stopped, text_files}
@@ -123,3 +126,10 @@ pub hand_failed : {A P V : Type 0} (r : Result ⊤ HandError) (e : RunError) (m 
 hand_failed {A} {P} {V} r e m s names events y lines a b is h =
     subst (λ (x : Result ⊤ HandError). EndsHand x s names events a b) (sym is)
     (failed_hand {A = A} m s names events y lines a b e h)
+
+-- the same where the lines that are gathered could not be written
+pub fault_lines : {A B : Type 0} (w : Result B HandError) (r : Result A OutputError) (e : OutputError)
+    → w ≡ Err (hand_error_of (run_error_of e)) → r ≡ Err e → IsErrOf w hand.WriteFault
+    → IsErrOf r output.WriteFault
+fault_lines w r output.WriteFault made was fault = was
+fault_lines w r output.NoMemory made was fault = absurd (cc)

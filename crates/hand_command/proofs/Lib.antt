@@ -2,3 +2,4 @@ pub mod RestingWorlds
 pub mod HandSteps
 pub mod HandEnds
 pub mod Resuming
+pub mod ImageTexts

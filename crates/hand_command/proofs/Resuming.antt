@@ -27,7 +27,7 @@ use Rattle.hand_command.specs.Errors.{go_on_result_of, not_resumed}
 use Rattle.hand_command.specs.Hand.{HandsOver, IsHandedOver, resting}
 use Rattle.hand_command.specs.Resume.{HasHalted, HasResumed}
 
-names_long : (sent : List Sent) → length (sent_names sent) ≡ length sent
+pub names_long : (sent : List Sent) → length (sent_names sent) ≡ length sent
 names_long [] = refl
 names_long (o ∷ sent) = ap suc (names_long sent)
 

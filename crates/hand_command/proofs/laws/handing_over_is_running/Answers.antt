@@ -1,0 +1,6 @@
+use Rattle.hand_command.proofs.Resuming.{one_run}
+use Rattle.hand_command.proofs.laws.handing_over_is_running.Goals as goal
+
+pub returns : goal.returns
+returns c = λ s names others events rest a b c d h goes_on.
+    one_run s others events rest c d h.hand (goes_on h.hand.world h.hand.handed)
