@@ -54,11 +54,11 @@ failed_hand {A} {P} {V} m s names events y lines a b run.NoMemory h =
 
 module _ {P V : Type 0} (m : Meaning V) (s : Setting V) (names : OutputNames) (events : List Event)
     (y : Systemed P V) (lines : List ℕ) (a b : Shown) (come : HasCome m s (beginning V) names events y lines a b) where
-  there : Point V
-  there = record { world = come.world; replies = come.replies }
+  abbrev pub ready_point : Point V
+  ready_point = record { world = come.world; replies = come.replies }
 
   -- where the events of the script ended, the last four begin
-  pub from_there : HasCome m s there names [] y lines a b
+  pub from_there : HasCome m s ready_point names [] y lines a b
   from_there = record {
     replies = [];
     world = come.world;
@@ -69,7 +69,7 @@ module _ {P V : Type 0} (m : Meaning V) (s : Setting V) (names : OutputNames) (e
         (sym (append-nil come.replies)) come.gathered;
   }
 
-  some_behind : (writes : List Write) → WritesSomeFrom s there names resting writes
+  some_behind : (writes : List Write) → WritesSomeFrom s ready_point names resting writes
       → WritesSomeFrom s (beginning V) names (events ++ resting) writes
   some_behind writes some = record {
     before = events ++ some.before;
@@ -82,7 +82,7 @@ module _ {P V : Type 0} (m : Meaning V) (s : Setting V) (names : OutputNames) (e
     writes_are = some.writes_are;
   }
 
-  until_behind : (limit : Limit) (writes : List Write) → WritesUntilFrom s there names resting limit writes
+  until_behind : (limit : Limit) (writes : List Write) → WritesUntilFrom s ready_point names resting limit writes
       → WritesUntilFrom s (beginning V) names (events ++ resting) limit writes
   until_behind limit writes until = record {
     before = events ++ until.before;
@@ -100,7 +100,7 @@ module _ {P V : Type 0} (m : Meaning V) (s : Setting V) (names : OutputNames) (e
     writes_are = until.writes_are;
   }
 
-  begun_behind : (c : Shown) → HasBegunSome s there names resting a c → HasBegunHand s names events a c
+  begun_behind : (c : Shown) → HasBegunSome s ready_point names resting a c → HasBegunHand s names events a c
   begun_behind c (writes, (inl some), begun) = (writes, inl (some_behind writes some), begun)
   begun_behind c (writes, (inr (limit, until)), begun) = (
     writes,
@@ -110,7 +110,7 @@ module _ {P V : Type 0} (m : Meaning V) (s : Setting V) (names : OutputNames) (e
 
   -- the last four events came to no end
   pub stopped_behind : (z : Systemed P V) (more : List ℕ) (c : Shown) (e : RunError)
-      → GoesOn {A = ⊤} (Err e) m s there names resting z more a c
+      → GoesOn {A = ⊤} (Err e) m s ready_point names resting z more a c
       → EndsHand (Err (hand_error_of e)) s names events a c
   stopped_behind z more c (run.Limit limit) h = record {
     writes = h.writes;
@@ -121,7 +121,7 @@ module _ {P V : Type 0} (m : Meaning V) (s : Setting V) (names : OutputNames) (e
   stopped_behind z more c run.NoMemory h = begun_behind c h
 
   module _ (comes : ComesToRest V) (counted : StaysCounted V) (ready : IsReadiness come.world (Ok tt))
-      (z : Systemed P V) (more : List ℕ) (c : Shown) (rest : HasCome m s there names resting z more a c) where
+      (z : Systemed P V) (more : List ℕ) (c : Shown) (rest : HasCome m s ready_point names resting z more a c) where
     -- no more words are drawn than moves made
     pub is_counted : rest.world.drawn ≤ rest.world.moves
     is_counted =
@@ -155,7 +155,7 @@ module _ {P V : Type 0} (m : Meaning V) (s : Setting V) (names : OutputNames) (e
       fits_image = fits;
     }
 
-    replied : List Write
+    abbrev pub replied : List Write
     replied = writes_of names s.fractions (come.replies ++ rest.replies)
 
     handover : (image : Image) → IsImageOf s rest.world image → FitsImage image

@@ -1,5 +1,5 @@
--- What the command `hand` writes, and in which order: what `run` writes of the events, but for its end; where the system
--- is ready then, what four more events leave, the text of the image, and the last line.
+-- What the command `hand` writes, and in which order: what `run` writes of the events, but for its end; where the
+-- system is ready then, what four more events leave, the text of the image, and the last line.
 use Rattle.std.specs.Prelude.{◌≡◌, ◌⊎◌, ℕ, All, List, [], ◌∷◌, ◌++◌, Ok, Err}
 use Rattle.plain_text.specs.declared.limit.Limit.{Limit}
 use Rattle.world_io.specs.World.{Shown}

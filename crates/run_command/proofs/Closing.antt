@@ -22,17 +22,20 @@ use Rattle.run_writes.specs.Run.{OutputNames, writes_of, closing_writes, counts_
 use Rattle.run_writes.specs.Run.{FinishesFrom}
 use Rattle.run_command.specs.Running.{HasCome}
 
-pub err_finishes : {V : Type 0} (r : Result ⊤ OutputError) (s : Setting V) (from : Point V) (names : OutputNames) (events : List Event)
+pub err_finishes : {V : Type 0} (r : Result ⊤ OutputError) (s : Setting V) (from : Point V) (names : OutputNames)
+    (events : List Event)
     (a b : Shown) → IsErr r → HasBegunFrom s from names events a b → FinishesFrom r s from names events a b
 err_finishes (Ok done) s from names events a b err h = absurd (cc)
 err_finishes (Err error) s from names events a b err h = h
 
-module _ {P V : Type 0} (m : Meaning V) (s : Setting V) (from : Point V) (names : OutputNames) (events : List Event) (y : Systemed P V)
+module _ {P V : Type 0} (m : Meaning V) (s : Setting V) (from : Point V) (names : OutputNames) (events : List Event)
+    (y : Systemed P V)
     (lines : List ℕ) (a b : Shown) (come : HasCome m s from names events y lines a b) where
   -- a first part of what the events write was written
   pub still_begun : HasBegunFrom s from names events a b
   still_begun =
-      let h = gathered_begun (writes_of names s.fractions (from.replies ++ come.replies)) [] lines a b come.gathered in (
+      let h = gathered_begun (writes_of names s.fractions (from.replies
+          ++ come.replies)) [] lines a b come.gathered in (
         writes_of names s.fractions (from.replies ++ come.replies),
         inl (record {
           before = events;
@@ -43,7 +46,8 @@ module _ {P V : Type 0} (m : Meaning V) (s : Setting V) (from : Point V) (names 
           answers = come.answers;
           writes_are = refl;
         }),
-        subst (λ (ws : List Write). HasBegun ws a b) (append-nil (writes_of names s.fractions (from.replies ++ come.replies))) h,
+        subst (λ (ws : List Write). HasBegun ws a b) (append-nil (writes_of names s.fractions (from.replies
+            ++ come.replies))) h,
       )
 
   module _ (f : Finished) (ends : FinishesAs s come.world f) (fit : FitLines f.schedule) where
@@ -65,7 +69,8 @@ module _ {P V : Type 0} (m : Meaning V) (s : Setting V) (from : Point V) (names 
 
     pub closes : (r : Result ⊤ OutputError) (text line : List ℕ) (e : Shown)
         → text ≡ schedule_text f.schedule → line ≡ counts_line f.fed f.epoch f.released
-        → Writes r (writes_of names s.fractions (from.replies ++ come.replies) ++ (Appends names.schedule text ∷ Reports line ∷ [])) a e
+        → Writes r (writes_of names s.fractions (from.replies ++ come.replies) ++
+        (Appends names.schedule text ∷ Reports line ∷ [])) a e
         → FinishesFrom r s from names events a e
     closes r text line e text_is line_is h = go r here
       where
@@ -74,15 +79,18 @@ module _ {P V : Type 0} (m : Meaning V) (s : Setting V) (from : Point V) (names 
             ++ closing_writes names (moves_made ends.steps) (done_line come.world)) a e
         here =
             subst (λ (l : List ℕ).
-            Writes r (writes_of names s.fractions (from.replies ++ come.replies) ++ closing_writes names (moves_made ends.steps) l) a e)
+            Writes r (writes_of names s.fractions (from.replies ++ come.replies) ++ closing_writes names
+                (moves_made ends.steps) l) a e)
             (line_is ∙ counts)
             (subst (λ (l : List ℕ).
-            Writes r (writes_of names s.fractions (from.replies ++ come.replies) ++ (Appends names.schedule l ∷ Reports line ∷ [])) a e)
+            Writes r (writes_of names s.fractions (from.replies ++ come.replies) ++
+                (Appends names.schedule l ∷ Reports line ∷ [])) a e)
             (text_is ∙ ap schedule_text ends.schedule) h)
 
         go : (r : Result ⊤ OutputError)
             → Writes r
             (writes_of names s.fractions (from.replies ++ come.replies)
-            ++ closing_writes names (moves_made ends.steps) (done_line come.world)) a e → FinishesFrom r s from names events a e
+            ++ closing_writes names (moves_made ends.steps) (done_line come.world)) a e
+            → FinishesFrom r s from names events a e
         go (Ok done) h = (_, all, h)
         go (Err error) h = (_, inr (inr all), h)

@@ -52,7 +52,8 @@ replies_more name (x ∷ replies) r =
     ap (λ l. reply_writes name x ++ l) (replies_more name replies r)
     ∙ sym (append_assoc (reply_writes name x) (replies_writes name replies) (reply_writes name r))
 
-module _ {P V : Type 0} (m : Meaning V) (s : Setting V) (from : Point V) (names : OutputNames) (events : List Event) (y : Systemed P V)
+module _ {P V : Type 0} (m : Meaning V) (s : Setting V) (from : Point V) (names : OutputNames) (events : List Event)
+    (y : Systemed P V)
     (lines : List ℕ) (a b : Shown) (come : HasCome m s from names events y lines a b) where
   with_reply : (r : Reply)
       → writes_of names s.fractions (from.replies ++ (come.replies ++ r ∷ []))
@@ -120,7 +121,8 @@ module _ {P V : Type 0} (m : Meaning V) (s : Setting V) (from : Point V) (names 
         h,
       )
 
-      go : (w : Result ⊤ OutputError) → WritesGathered w (writes_of names s.fractions (from.replies ++ (come.replies ++ r ∷ []))) more a c
+      go : (w : Result ⊤ OutputError) → WritesGathered w (writes_of names s.fractions (from.replies ++
+          (come.replies ++ r ∷ []))) more a c
           → OnOk w (All FitsRecord (packets_in outputs))
           → GoesOn (run_result_of w) m s from names (events ++ ev ∷ []) new more a c
       go (Ok done) h each = record {
@@ -137,7 +139,8 @@ module _ {P V : Type 0} (m : Meaning V) (s : Setting V) (from : Point V) (names 
   -- an event stopped at a limit, and what it released before was written
   stopped_goes : (ev : Event) (limit : Limit) (outputs : List Output) (w : Result ⊤ OutputError) (new : Systemed P V)
       (more : List ℕ) (c : Shown) → ComesTo m ev (Err (stop.Limit limit)) outputs y new
-      → Writes w (writes_of names s.fractions (from.replies ++ come.replies) ++ release_writes names.released (packets_in outputs)) a c
+      → Writes w (writes_of names s.fractions (from.replies ++ come.replies) ++ release_writes names.released
+      (packets_in outputs)) a c
       → GoesOn (stopped_result w limit) m s from names (events ++ ev ∷ []) new more a c
   stopped_goes ev limit outputs w new more c comes written = go w here
     where
@@ -146,13 +149,16 @@ module _ {P V : Type 0} (m : Meaning V) (s : Setting V) (from : Point V) (names 
       came = comes s come.world come.at
 
       here : Writes w
-          (writes_of names s.fractions (from.replies ++ come.replies) ++ release_writes names.released (newly_released come.world came.0))
+          (writes_of names s.fractions (from.replies ++ come.replies) ++ release_writes names.released
+          (newly_released come.world came.0))
           a c
       here = subst (λ (l : List Packet).
-          Writes w (writes_of names s.fractions (from.replies ++ come.replies) ++ release_writes names.released l) a c) came.2 written
+          Writes w (writes_of names s.fractions (from.replies ++ come.replies)
+              ++ release_writes names.released l) a c) came.2 written
 
       until : WritesUntilFrom s from names (events ++ ev ∷ []) limit
-          (writes_of names s.fractions (from.replies ++ come.replies) ++ release_writes names.released (newly_released come.world came.0))
+          (writes_of names s.fractions (from.replies ++ come.replies) ++ release_writes names.released
+          (newly_released come.world came.0))
       until = record {
         before = events;
         event = ev;
@@ -168,14 +174,16 @@ module _ {P V : Type 0} (m : Meaning V) (s : Setting V) (from : Point V) (names 
 
       go : (w : Result ⊤ OutputError)
           → Writes w
-          (writes_of names s.fractions (from.replies ++ come.replies) ++ release_writes names.released (newly_released come.world came.0))
+          (writes_of names s.fractions (from.replies ++ come.replies) ++ release_writes names.released
+          (newly_released come.world came.0))
           a c → GoesOn (stopped_result w limit) m s from names (events ++ ev ∷ []) new more a c
       go (Ok done) h = record { writes = _; until = until; written = h }
       go (Err output.WriteFault) h = (_, inr (limit, until), h)
       go (Err output.NoMemory) h = (_, inr (limit, until), h)
 
   -- nothing more was written
-  nothing_more : (rest : List Event) (c : Shown) → HasBegun (writes_of names s.fractions (from.replies ++ come.replies)) a c
+  nothing_more : (rest : List Event) (c : Shown) → HasBegun (writes_of names s.fractions (from.replies
+      ++ come.replies)) a c
       → HasBegunSome s from names (events ++ rest) a c
   nothing_more rest c begun = (
     writes_of names s.fractions (from.replies ++ come.replies),
@@ -194,7 +202,8 @@ module _ {P V : Type 0} (m : Meaning V) (s : Setting V) (from : Point V) (names 
   -- an event was performed, or stopped, and what it left was written
   pub performed_goes : (ev : Event) (reply : Result SystemReply Stop) (outputs : List Output) (r : Result ⊤ RunError)
       (new : Systemed P V) (more : List ℕ) (c : Shown) → ComesTo m ev reply outputs y new
-      → WritesPerformed r reply ev (packets_in outputs) (writes_of names s.fractions (from.replies ++ come.replies)) names.released more
+      → WritesPerformed r reply ev (packets_in outputs) (writes_of names s.fractions (from.replies
+      ++ come.replies)) names.released more
       a c → GoesOn r m s from names (events ++ ev ∷ []) new more a c
   performed_goes ev (Ok reply) outputs r new more c comes written =
       let came = comes s come.world come.at in
@@ -208,8 +217,10 @@ module _ {P V : Type 0} (m : Meaning V) (s : Setting V) (from : Point V) (names 
       subst (λ (x : Result ⊤ RunError). GoesOn x m s from names (events ++ ev ∷ []) new more a c) (sym written.0)
       (nothing_more (ev ∷ []) c written.1)
 
-pub until_longer : {V : Type 0} (s : Setting V) (from : Point V) (names : OutputNames) (events rest : List Event) (limit : Limit)
-    (writes : List Write) → WritesUntilFrom s from names events limit writes → WritesUntilFrom s from names (events ++ rest) limit writes
+pub until_longer : {V : Type 0} (s : Setting V) (from : Point V) (names : OutputNames) (events rest : List Event)
+    (limit : Limit)
+    (writes : List Write) → WritesUntilFrom s from names events limit writes
+    → WritesUntilFrom s from names (events ++ rest) limit writes
 until_longer s from names events rest limit writes until =
     record {
       before = until.before;
@@ -225,7 +236,8 @@ until_longer s from names events rest limit writes until =
     }
 
 -- what these events write is some of what they write with more behind them
-pub some_longer : {V : Type 0} (s : Setting V) (from : Point V) (names : OutputNames) (events rest : List Event) (a b : Shown)
+pub some_longer : {V : Type 0} (s : Setting V) (from : Point V) (names : OutputNames) (events rest : List Event)
+    (a b : Shown)
     → HasBegunSome s from names events a b → HasBegunSome s from names (events ++ rest) a b
 some_longer s from names events rest a b (writes, (inl some), begun) = (
   writes,
@@ -293,15 +305,18 @@ take_here (y ∷ events) zero x low is = ap (λ (z : Event). z ∷ []) (sym is)
 take_here (y ∷ events) (suc i) x low is = ap (λ l. y ∷ l) (take_here events i x (omega arith) is)
 
 -- it has come one event further
-pub come_on : {P V : Type 0} (m n : Meaning V) (s : Setting V) (from : Point V) (names : OutputNames) (events : List Event) (i : ℕ)
+pub come_on : {P V : Type 0} (m n : Meaning V) (s : Setting V) (from : Point V) (names : OutputNames)
+    (events : List Event) (i : ℕ)
     (x : Event) (y : Systemed P V) (lines : List ℕ) (a b : Shown) → n ≡ m → i < length events → x ≡ get_or events i x
-    → HasCome n s from names (take i events ++ x ∷ []) y lines a b → HasCome m s from names (take (i + 1) events) y lines a b
+    → HasCome n s from names (take i events ++ x ∷ []) y lines a b
+    → HasCome m s from names (take (i + 1) events) y lines a b
 come_on {P} {V} m n s from names events i x y lines a b same low is h =
     rw add-one (subst (λ (l : List Event). HasCome m s from names l y lines a b) (sym (take_here events i x low is))
     (subst (λ (k : Meaning V). HasCome k s from names (take i events ++ x ∷ []) y lines a b) same h))
 
 -- the meaning of the same program
-pub come_same : {P V : Type 0} (m n : Meaning V) (s : Setting V) (from : Point V) (names : OutputNames) (events : List Event)
+pub come_same : {P V : Type 0} (m n : Meaning V) (s : Setting V) (from : Point V) (names : OutputNames)
+    (events : List Event)
     (y : Systemed P V) (lines : List ℕ) (a b : Shown) → m ≡ n → HasCome m s from names events y lines a b
     → HasCome n s from names events y lines a b
 come_same {P} {V} m n s from names events y lines a b same h =
@@ -326,7 +341,8 @@ take_all [] (suc n) low = refl
 take_all (y ∷ events) zero low = absurd (omega arith)
 take_all (y ∷ events) (suc n) low = ap (λ l. y ∷ l) (take_all events n (omega arith))
 
-pub come_all : {P V : Type 0} (m : Meaning V) (s : Setting V) (from : Point V) (names : OutputNames) (events : List Event) (n : ℕ)
+pub come_all : {P V : Type 0} (m : Meaning V) (s : Setting V) (from : Point V) (names : OutputNames)
+    (events : List Event) (n : ℕ)
     (y : Systemed P V) (lines : List ℕ) (a b : Shown) → length events ≤ n
     → HasCome m s from names (take n events) y lines a b → HasCome m s from names events y lines a b
 come_all {P} {V} m s from names events n y lines a b low h =

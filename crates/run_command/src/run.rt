@@ -89,15 +89,7 @@ pub fn run_from<P: Program, W: World>(
 {
     let mut system = system;
     let mut lines = Bytes::new(alloc);
-    match write_events(
-        alloc,
-        world,
-        files,
-        unit,
-        events,
-        &mut system,
-        &mut lines,
-    ) {
+    match write_events(alloc, world, files, unit, events, &mut system, &mut lines) {
         Ok(outputs) => {
             let ended = close_run(alloc, world, outputs.schedule, system, &mut lines);
             written(ended)

@@ -39,13 +39,15 @@ returns-in_err-perform_event-clause-shows g c p h s from names before is come =
     let h0 = c.in_err-perform_event.ensures.before p h in
     let low : c.loop-event.event-index < length c.args.events.now = omega arith in
     let e : c.from_residual.result ≡ Err c.in_err-perform_event.field-0.0 = search rules in
-    rw e (goes_longer c.in_err-perform_event.field-0.0 _ _ s from names _ _ c.args.events.now c.perform_event.new.system _
+    rw e (goes_longer c.in_err-perform_event.field-0.0 _ _ s from names _ _ c.args.events.now
+        c.perform_event.new.system _
     c.perform_event.new.lines _ before _
     (split_here c.args.events.now c.loop-event.event-index _ low
     (same_item c.args.events.now c.loop-event.event-index _ low))
     (c.in_err-perform_event.ensures.shows p h s from names (take c.loop-event.event-index c.args.events.now) before
     (inv.keeps p h0 _ _ is)
-    (come_same _ _ s from names _ c.loop-event.system c.loop-event.lines before _ (ap g.P.Program.meaning (sym inv.program))
+    (come_same _ _ s from names _ c.loop-event.system c.loop-event.lines before _ (ap g.P.Program.meaning
+    (sym inv.program))
     (inv.shows p h0 s from names before is come))))
 
 pub returns-in_err-perform_event-clause-keeps : goal.returns-in_err-perform_event-clause-keeps

@@ -18,7 +18,8 @@ invariant-loop-event g l =
       somewhere : IsSomewhere m l.system;
       only_writes : OnlyWrites g.W.World.ledger g.W.World.healthy l.fn.world l.world;
       shows : (p : Start) → g.W.World.honest p l.world → (s : Setting g.row.P-Value.Denot)
-          (from : Point g.row.P-Value.Denot) (names : OutputNames) (before : Shown) → IsOutput l.file names.released (g.W.World.shows p l.fn.world)
+          (from : Point g.row.P-Value.Denot) (names : OutputNames) (before : Shown)
+          → IsOutput l.file names.released (g.W.World.shows p l.fn.world)
           → HasCome m s from names [] l.fn.system l.fn.lines before (g.W.World.shows p l.fn.world)
           → HasCome m s from names (take l.event-index l.events) l.system l.lines before (g.W.World.shows p l.world);
       keeps : (p : Start) → g.W.World.honest p l.world
