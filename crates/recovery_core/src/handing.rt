@@ -1,4 +1,4 @@
-ghost use Rattle.std.specs.Prelude.{◌≡◌, ◌≤◌, ◌×◌, [], All, Err, IfOk, false, length};
+ghost use Rattle.std.specs.Prelude.{◌≡◌, ◌≤◌, [], All, Err, IfOk, false, length};
 ghost use Rattle.plain_text.specs.Packets.{IsShort};
 ghost use Rattle.recovery_world.specs.World.{Setting, World};
 ghost use Rattle.recovery_laws.specs.Sound.{Sound};
