@@ -1,6 +1,6 @@
 -- What a hand-over comes to, step by step.
-use Rattle.std.proofs.Common.{◌≡◌, ℕ, ◌≤◌, List, [], ◌∷◌, ◌++◌, refl, sym, ap, ◌∙◌, append-nil, append_assoc, subst}
-use Rattle.std.proofs.Common.{inl, inr, arith, Result, Ok, Err}
+use Rattle.std.proofs.Common.{◌≡◌, ℕ, List, [], ◌∷◌, ◌++◌, refl, sym, ap, ◌∙◌, append-nil, append_assoc, subst}
+use Rattle.std.proofs.Common.{inl, inr, Result, Ok, Err}
 use Rattle.std.specs.Prelude.{⊤, ◌⊎◌, All}
 use Rattle.std.proofs.lemmas.List.Elements.{All-append, All-nil}
 use Rattle.plain_text.specs.declared.limit.Limit.{Limit}
@@ -8,10 +8,11 @@ use Rattle.plain_machine.specs.Program.{Meaning}
 use Rattle.world_io.specs.World.{Shown}
 use Rattle.recovery_world.specs.declared.event.Event.{Event}
 use Rattle.recovery_world.specs.World.{Setting, World as SystemWorld, opening}
-use Rattle.recovery_world.specs.Files.{done_line}
+use Rattle.recovery_world.specs.Files.{Performs, done_line}
 use Rattle.recovery_core.specs.Systems.{Systemed}
 use Rattle.handover.specs.declared.image.Image.{Image}
 use Rattle.handover.specs.Images.{FitsImage}
+use Rattle.handover_world.specs.Counted.{IsCounted}
 use Rattle.handover_world.specs.Images.{IsImageOf}
 use Rattle.handover_world.specs.declared.unready.Unready.{Unready}
 use Rattle.handover_world.specs.Ready.{IsReadiness}
@@ -29,7 +30,7 @@ use Rattle.run_command.proofs.Going.{some_longer, until_longer}
 use Rattle.hand_command.specs.Errors.{hand_error_of, hand_result_of}
 use Rattle.hand_command.specs.Hand.{HandsOver, HasBegunHand, WritesHandover, image_writes, resting}
 use Rattle.hand_command.specs.Handing.{EndsHand, LeftUnready, WritesImage}
-use Rattle.hand_command.proofs.RestingWorlds.{ComesToRest, StaysCounted, counted_there, rests_there}
+use Rattle.hand_command.proofs.RestingWorlds.{RestingLaws}
 
 -- a first part of what the events and the last four write
 some_hand : {V : Type 0} (s : Setting V) (names : OutputNames) (events : List Event) (a b : Shown)
@@ -120,14 +121,16 @@ module _ {P V : Type 0} (m : Meaning V) (s : Setting V) (names : OutputNames) (e
   stopped_behind z more c run.WriteFault h = begun_behind c h
   stopped_behind z more c run.NoMemory h = begun_behind c h
 
-  module _ (comes : ComesToRest V) (counted : StaysCounted V) (ready : IsReadiness come.world (Ok tt))
+  module _ (laws : RestingLaws V) (ready : IsReadiness come.world (Ok tt))
       (z : Systemed P V) (more : List ℕ) (c : Shown) (rest : HasCome m s ready_point names resting z more a c) where
-    -- no more words are drawn than moves made
-    pub is_counted : rest.world.drawn ≤ rest.world.moves
+    rests : Performs s come.world resting (lines_in rest.replies) rest.world
+    rests = answers_perform s resting rest.replies rest.world rest.answers
+
+    pub is_counted : IsCounted rest.world
     is_counted =
-        let low : (opening V).drawn ≤ (opening V).moves = omega arith in
-        counted_there counted s come.world resting rest.replies rest.world
-        (counted_there counted s (opening V) events come.replies come.world low come.answers) rest.answers
+        laws.goes_on s come.world resting (lines_in rest.replies) rest.world come.at.stands.parts.sound
+        (laws.performed s events (lines_in come.replies) come.world
+        (answers_perform s events come.replies come.world come.answers)) rests
 
     fit : All FitsRecord (released_in (come.replies ++ rest.replies))
     fit =
@@ -146,9 +149,8 @@ module _ {P V : Type 0} (m : Meaning V) (s : Setting V) (names : OutputNames) (e
       image = image;
       handed = record {
         sound = rest.at.stands.parts.sound;
-        rest = rests_there comes s come.world rest.world (lines_in rest.replies) come.at.stands.parts.sound
-            come.at.stands.parts.within ready
-            (answers_perform s resting rest.replies rest.world rest.answers);
+        rest = laws.rest s come.world rest.world come.at.stands.parts.sound ready
+            (laws.script s come.world rest.world (lines_in rest.replies) rests);
         image_is = is;
       };
       fit_records = fit;

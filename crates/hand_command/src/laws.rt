@@ -12,7 +12,7 @@ ghost use Rattle.hand_command.specs.Resume.{HasResumed};
 /// A run that is handed over, and gone on with from its image, is one run: of the events of the one script, the four
 /// that bring the system to rest, and the events of the other. The lines and the released packets of the two, one
 /// behind the other, are what that run leaves, and its schedule is that of the second.
-pub fn handing_over_is_running<X>()
+pub fn hand_and_resume_are_one_run<X>()
     ensures { (s : Setting X) (names others : OutputNames) (events rest : List Event)
         (a b c d : Shown) (h : HasHanded s names events a b)
         (goes_on : (w : World X) → IsHandedOver s w h.hand.image → HasResumed s w others rest c d)

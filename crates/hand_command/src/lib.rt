@@ -10,5 +10,5 @@ mod resume;
 
 pub use error::{GoOnError, HandError};
 pub use hand::{HandFiles, run_hand};
-pub use laws::handing_over_is_running;
+pub use laws::hand_and_resume_are_one_run;
 pub use resume::run_resume;

@@ -1,9 +1,10 @@
-use Rattle.std.proofs.Common.{◌≡◌, ap, sym, ◌∙◌, refl, rules, Err}
+use Rattle.std.proofs.Common.{◌≡◌, ap, sym, rules, Err}
 use Rattle.output_files.proofs.OnlyWriting.{OnlyWrites-trans}
 use Rattle.run_writes.proofs.OpeningSteps.{writable_still}
 use Rattle.run_command.proofs.Going.{come_same, fault_written}
 use Rattle.hand_command.specs.Hand.{resting}
 use Rattle.hand_command.proofs.HandSteps.{from_there, image_goes, is_counted, stopped_behind}
+use Rattle.hand_command.proofs.RestingWorlds.{RestingLaws}
 use Rattle.hand_command.proofs.handing.hand_ready.Goals as goal
 
 pub write_image-requires-clause-writable : goal.write_image-requires-clause-writable
@@ -27,15 +28,19 @@ pub returns-clause-shows : goal.returns-clause-shows
 returns-clause-shows g c p h s names events before released schedule come ready =
     let m = g.P.Program.meaning c.args.system.now.parts.program in
     let h0 = c.write_image.ensures.before p h in
+    let laws : RestingLaws g.row.P-Value.Denot = record {
+      script = c.ready_worlds_come_to_rest.ensures.script;
+      rest = c.ready_worlds_come_to_rest.ensures.rest;
+      performed = c.reached_worlds_are_counted.ensures.performed;
+      goes_on = c.reached_worlds_are_counted.ensures.goes_on;
+    } in
     let rest = c.in_ok-perform_events.ensures.shows p h0 s _ names before released
     (from_there m s names events c.args.system.now c.args.lines.now before _ come) in
     let same = come_same _ _ s _ names resting c.perform_events.new.system c.perform_events.new.lines before _
     (ap g.P.Program.meaning (sym c.in_ok-perform_events.ensures.program)) rest in
-    rw c.written.ensures (image_goes m s names events c.args.system.now c.args.lines.now before _ come
-    c.ready_worlds_come_to_rest.ensures c.reached_worlds_are_counted.ensures ready c.perform_events.new.system
-    c.perform_events.new.lines _ rest c.write_image.result _
+    let counted = is_counted m s names events c.args.system.now c.args.lines.now before _ come laws ready
+    c.perform_events.new.system c.perform_events.new.lines _ rest in
+    rw c.written.ensures (image_goes m s names events c.args.system.now c.args.lines.now before _ come laws ready
+    c.perform_events.new.system c.perform_events.new.lines _ rest c.write_image.result _
     (c.write_image.ensures.shows p h s rest.world names _ before
-    (c.in_ok-perform_events.ensures.keeps p h0 _ _ schedule) same.at.stands.parts
-    (is_counted m s names events c.args.system.now c.args.lines.now before _ come
-    c.ready_worlds_come_to_rest.ensures c.reached_worlds_are_counted.ensures ready c.perform_events.new.system
-    c.perform_events.new.lines _ rest) rest.gathered))
+    (c.in_ok-perform_events.ensures.keeps p h0 _ _ schedule) same.at.stands.parts counted.draws rest.gathered))

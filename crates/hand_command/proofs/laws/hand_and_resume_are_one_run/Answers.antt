@@ -1,5 +1,5 @@
 use Rattle.hand_command.proofs.Resuming.{one_run}
-use Rattle.hand_command.proofs.laws.handing_over_is_running.Goals as goal
+use Rattle.hand_command.proofs.laws.hand_and_resume_are_one_run.Goals as goal
 
 pub returns : goal.returns
 returns c = λ s names others events rest a b c d h goes_on.
