@@ -119,13 +119,13 @@ fault_made w r run.WriteFault made was fault = was
 fault_made w r run.NoMemory made was fault = absurd (cc)
 
 -- the events of the script came to no end
-pub hand_failed : {A P V : Type 0} (r : Result ⊤ HandError) (e : RunError) (m : Meaning V) (s : Setting V)
+pub hand_failed : (A : Type 0) {P V : Type 0} (r : Result ⊤ HandError) (e : RunError) (m : Meaning V) (s : Setting V)
     (names : OutputNames) (events : List Event) (y : Systemed P V) (lines : List ℕ) (a b : Shown)
     → r ≡ Err (hand_error_of e) → GoesOn {A = A} (Err e) m s (beginning V) names events y lines a b
     → EndsHand r s names events a b
-hand_failed {A} {P} {V} r e m s names events y lines a b is h =
+hand_failed A {P} {V} r e m s names events y lines a b is h =
     subst (λ (x : Result ⊤ HandError). EndsHand x s names events a b) (sym is)
-    (failed_hand {A = A} m s names events y lines a b e h)
+    (failed_hand A m s names events y lines a b e h)
 
 -- the same where the lines that are gathered could not be written
 pub fault_lines : {A B : Type 0} (w : Result B HandError) (r : Result A OutputError) (e : OutputError)

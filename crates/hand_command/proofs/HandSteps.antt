@@ -39,18 +39,18 @@ some_hand s names events a b (writes, (inl some), begun) = (writes, inl some, be
 some_hand s names events a b (writes, (inr until), begun) = (writes, inr (inl until), begun)
 
 -- the events of the script came to no end
-pub failed_hand : {A P V : Type 0} (m : Meaning V) (s : Setting V) (names : OutputNames) (events : List Event)
-    (y : Systemed P V) (lines : List ℕ) (a b : Shown) (e : RunError)
+pub failed_hand : (A : Type 0) {P V : Type 0} (m : Meaning V) (s : Setting V) (names : OutputNames)
+    (events : List Event) (y : Systemed P V) (lines : List ℕ) (a b : Shown) (e : RunError)
     → GoesOn {A = A} (Err e) m s (beginning V) names events y lines a b
     → EndsHand (Err (hand_error_of e)) s names events a b
-failed_hand {A} {P} {V} m s names events y lines a b (run.Limit limit) h = record {
+failed_hand A {P} {V} m s names events y lines a b (run.Limit limit) h = record {
   writes = h.writes;
   until = until_longer s (beginning V) names events resting limit h.writes h.until;
   written = h.written;
 }
-failed_hand {A} {P} {V} m s names events y lines a b run.WriteFault h =
+failed_hand A {P} {V} m s names events y lines a b run.WriteFault h =
     some_hand s names events a b (some_longer s (beginning V) names events resting a b h)
-failed_hand {A} {P} {V} m s names events y lines a b run.NoMemory h =
+failed_hand A {P} {V} m s names events y lines a b run.NoMemory h =
     some_hand s names events a b (some_longer s (beginning V) names events resting a b h)
 
 module _ {P V : Type 0} (m : Meaning V) (s : Setting V) (names : OutputNames) (events : List Event)
@@ -137,7 +137,7 @@ module _ {P V : Type 0} (m : Meaning V) (s : Setting V) (names : OutputNames) (e
         subst (All FitsRecord) (sym (released_join come.replies rest.replies)) (All-append FitsRecord
         (released_in come.replies) (released_in rest.replies) come.fit_records rest.fit_records)
 
-    hands_over : (image : Image) → IsImageOf s rest.world image → FitsImage image → HandsOver s events
+    abbrev hands_over : (image : Image) → IsImageOf s rest.world image → FitsImage image → HandsOver s events
     hands_over image is fits = record {
       replies = come.replies;
       ready = come.world;

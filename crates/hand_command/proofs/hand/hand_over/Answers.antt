@@ -1,6 +1,6 @@
 use Rattle.std.proofs.Common.{◌≡◌, ap, sym, rules, Err}
 use Rattle.output_files.proofs.OnlyWriting.{OnlyWrites-files, WritesFiles-trans, WritesFiles-failed}
-use Rattle.run_writes.specs.Run.{names_of}
+use Rattle.run_writes.specs.declared.opening.OutputFiles.{OutputFiles}
 use Rattle.run_command.proofs.Going.{come_same, somewhere_same}
 use Rattle.hand_command.specs.Errors.{hand_error_of}
 use Rattle.hand_command.specs.Hand as hand
@@ -21,7 +21,7 @@ returns-in_err-outputs-clause-cause g c fault =
 pub returns-in_err-outputs-clause-shows : goal.returns-in_err-outputs-clause-shows
 returns-in_err-outputs-clause-shows g c p h s unit at =
     let made : c.from_residual.result ≡ Err (hand_error_of c.in_err-outputs.field-0.0) = search rules in
-    hand_failed _ c.in_err-outputs.field-0.0 _ s (hand.names_of c.args.files) c.args.events.now _ _ _ _ made
+    hand_failed OutputFiles _ c.in_err-outputs.field-0.0 _ s (hand.names_of c.args.files) c.args.events.now _ _ _ _ made
     (c.in_err-outputs.ensures.shows p h s _ unit at)
 
 pub returns-clause-writes_files : goal.returns-clause-writes_files

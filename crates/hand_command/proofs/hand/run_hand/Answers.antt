@@ -7,8 +7,8 @@ use Rattle.hand_command.specs.Hand.{names_of}
 use Rattle.hand_command.proofs.HandEnds.{hand_begun, hand_limit, hand_nothing, hand_same, hand_unready, hand_whole}
 use Rattle.hand_command.proofs.hand.run_hand.Goals as goal
 
-pub hand_over-requires-clause-somewhere : goal.hand_over-requires-clause-somewhere
-hand_over-requires-clause-somewhere g c κs within =
+pub hand_over-ended-requires-clause-somewhere : goal.hand_over-ended-requires-clause-somewhere
+hand_over-ended-requires-clause-somewhere g c κs within =
     somewhere_same _ _ c.in_ok-system.system (ap g.P.Program.meaning (sym c.in_ok-system.ensures.program)) (
       _,
       _,

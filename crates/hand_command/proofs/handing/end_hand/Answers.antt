@@ -17,20 +17,19 @@ returns-in-Ok-clause-shows g c p h s names events before released schedule come 
 pub returns-in_err-write_lines-in-Err-clause-cause : goal.returns-in_err-write_lines-in-Err-clause-cause
 returns-in_err-write_lines-in-Err-clause-cause g c fault =
     let e = c.in_err-write_lines-in-Err.field-0.0 in
-    let made : c.from_residual-in_err-write_lines-in-Err.result ≡ Err (hand_error_of (run_error_of e)) = search rules in
-    let was : c.write_lines-in-Err.result ≡ Err e = search rules in
-    c.write_lines-in-Err.ensures.cause (fault_lines _ _ e made was fault)
+    let made : c.from_residual.result ≡ Err (hand_error_of (run_error_of e)) = search rules in
+    let was : c.write_lines.result ≡ Err e = search rules in
+    c.write_lines.ensures.cause (fault_lines _ _ e made was fault)
 
 pub returns-in_err-write_lines-in-Err-clause-shows : goal.returns-in_err-write_lines-in-Err-clause-shows
 returns-in_err-write_lines-in-Err-clause-shows g c p h s names events before released schedule come =
     let e = c.in_err-write_lines-in-Err.field-0.0 in
-    let made : c.from_residual-in_err-write_lines-in-Err.result ≡ Err (hand_error_of (run_error_of e)) = search rules in
+    let made : c.from_residual.result ≡ Err (hand_error_of (run_error_of e)) = search rules in
     rw made (lines_begun (g.P.Program.meaning c.args.system.now.parts.program) s names events c.args.system.now
-    c.args.lines.now before _ come e _
-    (c.in_err-write_lines-in-Err.ensures.shows p h before _ come.gathered))
+    c.args.lines.now before _ come e _ (c.in_err-write_lines-in-Err.ensures.shows p h before _ come.gathered))
 
-pub returns-in-Err-clause-shows : goal.returns-in-Err-clause-shows
-returns-in-Err-clause-shows g c p h s names events before released schedule come =
+pub returns-in_ok-write_lines-in-Err-clause-shows : goal.returns-in_ok-write_lines-in-Err-clause-shows
+returns-in_ok-write_lines-in-Err-clause-shows g c p h s names events before released schedule come =
     unready_goes (g.P.Program.meaning c.args.system.now.parts.program) s names events c.args.system.now
     c.args.lines.now before _ come c.in-Err.unready _ (c.in-Err.ensures s come.world come.at.stands.parts)
     (c.in_ok-write_lines-in-Err.ensures.shows p h before _ come.gathered)

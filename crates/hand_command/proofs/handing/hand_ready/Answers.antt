@@ -1,14 +1,13 @@
 use Rattle.std.proofs.Common.{◌≡◌, ap, sym, rules, Err}
 use Rattle.output_files.proofs.OnlyWriting.{OnlyWrites-trans}
 use Rattle.run_writes.proofs.OpeningSteps.{writable_still}
-use Rattle.run_command.proofs.Going.{come_same, fault_written}
-use Rattle.hand_command.specs.Hand.{resting}
+use Rattle.run_command.proofs.Going.{at_same}
 use Rattle.hand_command.proofs.HandSteps.{from_there, image_goes, is_counted, stopped_behind}
 use Rattle.hand_command.proofs.RestingWorlds.{RestingLaws}
 use Rattle.hand_command.proofs.handing.hand_ready.Goals as goal
 
 pub write_image-requires-clause-writable : goal.write_image-requires-clause-writable
-write_image-requires-clause-writable g c =
+write_image-requires-clause-writable g c κs within =
     writable_still _ _ _ c.requires.schedule c.in_ok-perform_events.ensures.only_writes.ledger
 
 pub returns-in_err-perform_events-clause-shows : goal.returns-in_err-perform_events-clause-shows
@@ -36,11 +35,11 @@ returns-clause-shows g c p h s names events before released schedule come ready 
     } in
     let rest = c.in_ok-perform_events.ensures.shows p h0 s _ names before released
     (from_there m s names events c.args.system.now c.args.lines.now before _ come) in
-    let same = come_same _ _ s _ names resting c.perform_events.new.system c.perform_events.new.lines before _
-    (ap g.P.Program.meaning (sym c.in_ok-perform_events.ensures.program)) rest in
+    let at = at_same _ _ s rest.world c.perform_events.new.system
+    (ap g.P.Program.meaning (sym c.in_ok-perform_events.ensures.program)) rest.at in
     let counted = is_counted m s names events c.args.system.now c.args.lines.now before _ come laws ready
     c.perform_events.new.system c.perform_events.new.lines _ rest in
     rw c.written.ensures (image_goes m s names events c.args.system.now c.args.lines.now before _ come laws ready
     c.perform_events.new.system c.perform_events.new.lines _ rest c.write_image.result _
     (c.write_image.ensures.shows p h s rest.world names _ before
-    (c.in_ok-perform_events.ensures.keeps p h0 _ _ schedule) same.at.stands.parts counted.draws rest.gathered))
+    (c.in_ok-perform_events.ensures.keeps p h0 _ _ schedule) at.stands.parts counted.draws rest.gathered))

@@ -5,6 +5,7 @@ use Rattle.run_writes.proofs.RunWrites.{nothing_begun}
 use Rattle.run_command.proofs.Going.{at_same, somewhere_same}
 use Rattle.run_command.proofs.WholeRun.{runs_begun}
 use Rattle.hand_command.specs.Errors.{not_resumed}
+use Rattle.hand_command.specs.Hand.{IsHandedOver}
 use Rattle.hand_command.proofs.Resuming.{fault_gone_on, no_fault, refused_no_limit, refused_no_write, resumed_at}
 use Rattle.hand_command.proofs.Resuming.{resumed_limit, resumed_same, resumed_whole, same_fault}
 use Rattle.hand_command.proofs.resume.run_resume.Goals as goal
@@ -12,11 +13,13 @@ use Rattle.hand_command.proofs.resume.run_resume.Goals as goal
 pub run_from-requires-clause-somewhere : goal.run_from-requires-clause-somewhere
 run_from-requires-clause-somewhere g c κs within =
     let is = c.in_ok-system.ensures in
-    let handed = record { sound = is.some.1; rest = is.some.2; image_is = is.some.3 } in
+    let s = setting_of (g.P.Program.meaning c.args.program) c.args.run in
+    let handed : IsHandedOver s is.some.0 c.args.image.now = record { sound = is.some.1; rest = is.some.2; image_is =
+        is.some.3 } in
     somewhere_same _ _ c.in_ok-system.system (ap g.P.Program.meaning (sym is.program)) (
-      _,
+      s,
       is.some.0,
-      resumed_at _ _ is.some.0 c.in_ok-system.system c.args.image.now handed
+      resumed_at _ s is.some.0 c.in_ok-system.system c.args.image.now handed
           (is.stands is.some.0 is.some.1 is.some.2 is.some.3) is.fresh is.handed,
       c.requires.inputs.short,
     )
