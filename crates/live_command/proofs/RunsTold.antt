@@ -20,7 +20,7 @@ use Rattle.output_files.proofs.Effects.{none_gathered}
 use Rattle.run_writes.specs.declared.error.RunError.{RunError}
 use Rattle.run_writes.specs.declared.error.RunError.TheVariants as run
 use Rattle.run_writes.specs.Errors.{run_error_of, run_result_of}
-use Rattle.run_writes.specs.Replies.{Opens, lines_in, released_in}
+use Rattle.run_writes.specs.Replies.{Opens, beginning, lines_in, released_in}
 use Rattle.run_writes.specs.Run.{FitsRecord, Finishes, HasBegunRun, HasFiles, opening_writes, writes_of}
 use Rattle.run_writes.proofs.RunWrites.{captured, has_run, has_stopped, kept, lines_are, same_name, scheduled}
 use Rattle.run_writes.proofs.ScriptAnswers.{answers_perform, answers_release}
@@ -134,7 +134,7 @@ module _ {P V : Type 0} (m : Meaning V) (s : Setting V) (names : LiveOutputs) (a
 
     -- beside the script, of which all lines are written, the run stands where `run` would
     pub come_beside : IsSystemAt m s w y
-        → HasCome m s names.outputs events y lines (holding names.script h.written old) now
+        → HasCome m s (beginning V) names.outputs events y lines (holding names.script h.written old) now
     come_beside at = record {
       replies = h.replies;
       world = w;

@@ -17,21 +17,26 @@ use Rattle.output_files.specs.declared.error.OutputError.{OutputError}
 use Rattle.output_files.specs.Writes.{Write, Appends, Reports, HasBegun}
 use Rattle.output_files.specs.Written.{Writes}
 use Rattle.output_files.proofs.Effects.{gathered_begun}
-use Rattle.run_writes.specs.Run.{OutputNames, writes_of, closing_writes, counts_line, WritesAll, HasBegunRun, Finishes}
+use Rattle.run_writes.specs.Replies.{Point}
+use Rattle.run_writes.specs.Run.{OutputNames, writes_of, closing_writes, counts_line, WritesAllFrom, HasBegunFrom}
+use Rattle.run_writes.specs.Run.{FinishesFrom}
 use Rattle.run_command.specs.Running.{HasCome}
 
-pub err_finishes : {V : Type 0} (r : Result ⊤ OutputError) (s : Setting V) (names : OutputNames) (events : List Event)
-    (a b : Shown) → IsErr r → HasBegunRun s names events a b → Finishes r s names events a b
-err_finishes (Ok done) s names events a b err h = absurd (cc)
-err_finishes (Err error) s names events a b err h = h
+pub err_finishes : {V : Type 0} (r : Result ⊤ OutputError) (s : Setting V) (from : Point V) (names : OutputNames)
+    (events : List Event)
+    (a b : Shown) → IsErr r → HasBegunFrom s from names events a b → FinishesFrom r s from names events a b
+err_finishes (Ok done) s from names events a b err h = absurd (cc)
+err_finishes (Err error) s from names events a b err h = h
 
-module _ {P V : Type 0} (m : Meaning V) (s : Setting V) (names : OutputNames) (events : List Event) (y : Systemed P V)
-    (lines : List ℕ) (a b : Shown) (come : HasCome m s names events y lines a b) where
+module _ {P V : Type 0} (m : Meaning V) (s : Setting V) (from : Point V) (names : OutputNames) (events : List Event)
+    (y : Systemed P V)
+    (lines : List ℕ) (a b : Shown) (come : HasCome m s from names events y lines a b) where
   -- a first part of what the events write was written
-  pub still_begun : HasBegunRun s names events a b
+  pub still_begun : HasBegunFrom s from names events a b
   still_begun =
-      let h = gathered_begun (writes_of names s.fractions come.replies) [] lines a b come.gathered in (
-        writes_of names s.fractions come.replies,
+      let h = gathered_begun (writes_of names s.fractions (from.replies
+          ++ come.replies)) [] lines a b come.gathered in (
+        writes_of names s.fractions (from.replies ++ come.replies),
         inl (record {
           before = events;
           after = [];
@@ -41,11 +46,12 @@ module _ {P V : Type 0} (m : Meaning V) (s : Setting V) (names : OutputNames) (e
           answers = come.answers;
           writes_are = refl;
         }),
-        subst (λ (ws : List Write). HasBegun ws a b) (append-nil (writes_of names s.fractions come.replies)) h,
+        subst (λ (ws : List Write). HasBegun ws a b) (append-nil (writes_of names s.fractions (from.replies
+            ++ come.replies))) h,
       )
 
   module _ (f : Finished) (ends : FinishesAs s come.world f) (fit : FitLines f.schedule) where
-    all : WritesAll s names events (writes_of names s.fractions come.replies
+    all : WritesAllFrom s from names events (writes_of names s.fractions (from.replies ++ come.replies)
         ++ closing_writes names (moves_made ends.steps) (done_line come.world))
     all = record {
       replies = come.replies;
@@ -63,24 +69,28 @@ module _ {P V : Type 0} (m : Meaning V) (s : Setting V) (names : OutputNames) (e
 
     pub closes : (r : Result ⊤ OutputError) (text line : List ℕ) (e : Shown)
         → text ≡ schedule_text f.schedule → line ≡ counts_line f.fed f.epoch f.released
-        → Writes r (writes_of names s.fractions come.replies ++ (Appends names.schedule text ∷ Reports line ∷ [])) a e
-        → Finishes r s names events a e
+        → Writes r (writes_of names s.fractions (from.replies ++ come.replies) ++
+        (Appends names.schedule text ∷ Reports line ∷ [])) a e
+        → FinishesFrom r s from names events a e
     closes r text line e text_is line_is h = go r here
       where
         here : Writes r
-            (writes_of names s.fractions come.replies
+            (writes_of names s.fractions (from.replies ++ come.replies)
             ++ closing_writes names (moves_made ends.steps) (done_line come.world)) a e
         here =
             subst (λ (l : List ℕ).
-            Writes r (writes_of names s.fractions come.replies ++ closing_writes names (moves_made ends.steps) l) a e)
+            Writes r (writes_of names s.fractions (from.replies ++ come.replies) ++ closing_writes names
+                (moves_made ends.steps) l) a e)
             (line_is ∙ counts)
             (subst (λ (l : List ℕ).
-            Writes r (writes_of names s.fractions come.replies ++ (Appends names.schedule l ∷ Reports line ∷ [])) a e)
+            Writes r (writes_of names s.fractions (from.replies ++ come.replies) ++
+                (Appends names.schedule l ∷ Reports line ∷ [])) a e)
             (text_is ∙ ap schedule_text ends.schedule) h)
 
         go : (r : Result ⊤ OutputError)
             → Writes r
-            (writes_of names s.fractions come.replies
-            ++ closing_writes names (moves_made ends.steps) (done_line come.world)) a e → Finishes r s names events a e
+            (writes_of names s.fractions (from.replies ++ come.replies)
+            ++ closing_writes names (moves_made ends.steps) (done_line come.world)) a e
+            → FinishesFrom r s from names events a e
         go (Ok done) h = (_, all, h)
         go (Err error) h = (_, inr (inr all), h)

@@ -18,9 +18,9 @@ use Rattle.plain_text.specs.declared.packet.Packet.{Packet}
 use Rattle.output_files.specs.declared.error.OutputError.{OutputError}
 use Rattle.output_files.specs.Writes.{Write, HasWritten, HasBegun, HasGathered}
 use Rattle.output_files.specs.Written.{Writes, WritesGathered}
-use Rattle.run_writes.specs.Replies.{Reply, Answers, newly_released, packets_in, released_in}
-use Rattle.run_writes.specs.Run.{OutputNames, FitsRecord, release_writes, reply_writes, writes_of, WritesSome}
-use Rattle.run_writes.specs.Run.{WritesUntil}
+use Rattle.run_writes.specs.Replies.{Reply, AnswersFrom, Point, newly_released, packets_in, released_in}
+use Rattle.run_writes.specs.Run.{OutputNames, FitsRecord, release_writes, reply_writes, writes_of, WritesSomeFrom}
+use Rattle.run_writes.specs.Run.{WritesUntilFrom, WritesAllFrom, HasBegunFrom}
 use Rattle.run_writes.specs.Errors.{run_result_of, stopped_result}
 use Rattle.run_writes.specs.declared.error.RunError.{RunError}
 use Rattle.run_writes.specs.declared.error.RunError.TheVariants as run
@@ -67,36 +67,47 @@ WritesPerformed result (Err stop.NoMemory) ev released writes name lines old new
 abbrev pub IsSomewhere : {P V : Type 0} → Meaning V → Systemed P V → Type 0
 IsSomewhere {P} {V} m y = (s : Setting V) × (w : SystemWorld V) × IsSystemAt m s w y × All IsShort s.packets
 
--- The events were performed, the system is at their world, and what they write was written but for the lines that are
--- gathered.
-pub record HasCome {P V : Type 0} (m : Meaning V) (s : Setting V) (names : OutputNames) (events : List Event)
-    (y : Systemed P V) (lines : List ℕ) (old new : Shown) : Type 0 where
+-- The events were performed from this point, the system is at their world, and what they write was written but for the
+-- lines that are gathered.
+pub record HasCome {P V : Type 0} (m : Meaning V) (s : Setting V) (from : Point V) (names : OutputNames)
+    (events : List Event) (y : Systemed P V) (lines : List ℕ) (old new : Shown) : Type 0 where
   pub replies : List Reply
   pub world : SystemWorld V
-  pub answers : Answers s events replies world
+  pub answers : AnswersFrom s from.world events replies world
   pub at : IsSystemAt m s world y
   pub fit_records : All FitsRecord (released_in replies)
-  pub gathered : HasGathered (writes_of names s.fractions replies) lines old new
+  pub gathered : HasGathered (writes_of names s.fractions (from.replies ++ replies)) lines old new
 
 -- An event stopped at a limit, and all that is to be written until then was written.
-pub record StoppedThere {V : Type 0} (s : Setting V) (names : OutputNames) (events : List Event) (limit : Limit)
-    (old new : Shown) : Type 0 where
+pub record StoppedThere {V : Type 0} (s : Setting V) (from : Point V) (names : OutputNames) (events : List Event)
+    (limit : Limit) (old new : Shown) : Type 0 where
   pub writes : List Write
-  pub until : WritesUntil s names events limit writes
+  pub until : WritesUntilFrom s from names events limit writes
   pub written : HasWritten writes old new
 
 -- some first part of what these events write was written, where they may have stopped at a limit
-abbrev pub HasBegunSome : {V : Type 0} → Setting V → OutputNames → List Event → Shown → Shown → Type 0
-HasBegunSome s names events old new =
+abbrev pub HasBegunSome : {V : Type 0} → Setting V → Point V → OutputNames → List Event → Shown → Shown → Type 0
+HasBegunSome s from names events old new =
     (writes : List Write)
-    × (WritesSome s names events writes ⊎ ((limit : Limit) × WritesUntil s names events limit writes))
+    × (WritesSomeFrom s from names events writes
+    ⊎ ((limit : Limit) × WritesUntilFrom s from names events limit writes))
     × HasBegun writes old new
 
 -- What performing and writing the events came to: all of it was done; or it stopped at a limit; or a first part of it
 -- was written.
-abbrev pub GoesOn : {A P V : Type 0} → Result A RunError → Meaning V → Setting V → OutputNames → List Event
+abbrev pub GoesOn : {A P V : Type 0} → Result A RunError → Meaning V → Setting V → Point V → OutputNames → List Event
     → Systemed P V → List ℕ → Shown → Shown → Type 0
-GoesOn (Ok done) m s names events y lines old new = HasCome m s names events y lines old new
-GoesOn (Err (run.Limit limit)) m s names events y lines old new = StoppedThere s names events limit old new
-GoesOn (Err run.WriteFault) m s names events y lines old new = HasBegunSome s names events old new
-GoesOn (Err run.NoMemory) m s names events y lines old new = HasBegunSome s names events old new
+GoesOn (Ok done) m s from names events y lines old new = HasCome m s from names events y lines old new
+GoesOn (Err (run.Limit limit)) m s from names events y lines old new = StoppedThere s from names events limit old new
+GoesOn (Err run.WriteFault) m s from names events y lines old new = HasBegunSome s from names events old new
+GoesOn (Err run.NoMemory) m s from names events y lines old new = HasBegunSome s from names events old new
+
+-- What a whole run of the events from this point came to: all was written; or an event stopped at a limit; or some
+-- first part was written.
+abbrev pub RunsFrom : {V : Type 0} → Result ⊤ RunError → Setting V → Point V → OutputNames → List Event → Shown → Shown
+    → Type 0
+RunsFrom (Ok done) s from names events old new =
+    (writes : List Write) × WritesAllFrom s from names events writes × HasWritten writes old new
+RunsFrom (Err (run.Limit limit)) s from names events old new = StoppedThere s from names events limit old new
+RunsFrom (Err run.WriteFault) s from names events old new = HasBegunFrom s from names events old new
+RunsFrom (Err run.NoMemory) s from names events old new = HasBegunFrom s from names events old new

@@ -6,7 +6,8 @@ ghost use Rattle.recovery_world.specs.declared.event.Event.{Event as EventKind};
 ghost use Rattle.recovery_world.specs.World.{Setting};
 ghost use Rattle.output_files.specs.Writes.{IsOutput, KeepsOutputs};
 ghost use Rattle.output_files.specs.Written.{OnlyWrites};
-ghost use Rattle.run_writes.specs.Run.{OutputNames, Finishes, counts_line};
+ghost use Rattle.run_writes.specs.Replies.{Point};
+ghost use Rattle.run_writes.specs.Run.{OutputNames, FinishesFrom, counts_line};
 ghost use Rattle.run_command.specs.Running.{HasCome};
 
 use box_program::Program;
@@ -52,12 +53,12 @@ pub fn close_run<P: Program, W: World>(
     ensures cause { IsErrOf result OutputError.WriteFault
         → WritingFailed W.ledger W.healthy world.old world.new }
     ensures shows { (p : Start) → W.honest p world.new
-        → (s : Setting P.Value) (names : OutputNames)
+        → (s : Setting P.Value) (from : Point P.Value) (names : OutputNames)
         (events : List EventKind) (before : Shown)
         → IsOutput file names.schedule (W.shows p world.old)
-        → HasCome (P.meaning system.parts.program) s names events system lines.old before
+        → HasCome (P.meaning system.parts.program) s from names events system lines.old before
         (W.shows p world.old)
-        → Finishes result s names events before (W.shows p world.new) }
+        → FinishesFrom result s from names events before (W.shows p world.new) }
     ensures keeps { (p : Start) → W.honest p world.new
         → KeepsOutputs (W.shows p world.old) (W.shows p world.new) }
     ensures before { (p : Start) → W.honest p world.new → W.honest p world.old }

@@ -11,5 +11,5 @@ mod running;
 pub use ending::close_run;
 pub use performing::{Performed, perform};
 pub use replying::write_performed;
-pub use run::run_script;
+pub use run::{run_from, run_script, write_events};
 pub use running::{perform_event, perform_events};

@@ -2,25 +2,26 @@ ghost use Rattle.std.specs.Prelude.{◌≡◌, ◌<◌, ◌-◌, ◌^◌, [], If
 ghost use Rattle.std.specs.Prelude.{false};
 ghost use Rattle.plain_text.specs.declared.limit.Limit.{Limit as LimitKind};
 ghost use Rattle.world_io.specs.World.{Start, is_writable, WritingFailed};
-ghost use Rattle.recovery_world.specs.World.{Setting, opening};
+ghost use Rattle.recovery_world.specs.World.{Setting, World as SystemWorld};
 ghost use Rattle.output_files.specs.Writes.{IsOutput};
 ghost use Rattle.output_files.specs.Written.{WritesFiles};
+ghost use Rattle.run_writes.specs.Replies.{at_world};
 ghost use Rattle.run_writes.specs.Run.{CanRun, HasBegunRun, HasRun, HasStopped, names_of};
 ghost use Rattle.run_writes.specs.Run.{setting_of};
-ghost use Rattle.run_command.specs.Running.{GoesOn, IsSystemAt, IsSomewhere};
+ghost use Rattle.run_command.specs.Running.{GoesOn, IsSystemAt, IsSomewhere, RunsFrom};
 
 use crate::{close_run, perform_events};
 use box_program::Program;
 use plain_text::{Bytes, Unit};
 use recovery_core::System;
 use recovery_world::Event;
-use run_writes::{RunError, RunFiles, ScriptRun, open_outputs, written};
+use run_writes::{OutputFiles, RunError, RunFiles, ScriptRun, open_outputs, written};
 use std::alloc::Global;
 use world_io::World;
 
-/// Creates the outputs, and performs the events of a script and writes what each leaves. Gives the number of the
-/// schedule.
-fn write_events<P: Program, W: World>(
+/// Creates the outputs, and performs the events of a script and writes what each leaves. Gives the numbers of the
+/// outputs.
+pub fn write_events<P: Program, W: World>(
     alloc: Global,
     world: &mut W,
     files: RunFiles<'_>,
@@ -28,31 +29,76 @@ fn write_events<P: Program, W: World>(
     events: &[Event],
     system: &mut System<P>,
     lines: &mut Bytes,
-) -> Result<u32, RunError>
+) -> Result<OutputFiles, RunError>
     requires room { (W.ledger world.old).given < 2 ^ 32 - 2 }
     requires apart { files.released.now ≡ files.schedule.now → ⊥ }
     requires runs { system.old.stopped ≡ false }
     requires somewhere { IsSomewhere (P.meaning system.old.parts.program) system.old }
     requires none { lines.old ≡ [] }
-    ensures writable { IfOk result (λ file. IsTrue (is_writable (W.ledger world.new) file)) }
+    ensures writable { IfOk result
+        (λ o. IsTrue (is_writable (W.ledger world.new) o.released)
+        × IsTrue (is_writable (W.ledger world.new) o.schedule)) }
     ensures runs { OnOk result (system.new.stopped ≡ false) }
+    ensures somewhere { OnOk result
+        (IsSomewhere (P.meaning system.old.parts.program) system.new) }
     ensures program { OnOk result (system.new.parts.program ≡ system.old.parts.program) }
     ensures writes_files { WritesFiles W.ledger W.healthy 2 world.old world.new }
     ensures cause { IsErrOf result RunError.WriteFault
         → WritingFailed W.ledger W.healthy world.old world.new }
     ensures shows { (p : Start) → W.honest p world.new
-        → (s : Setting P.Value) → s.fractions ≡ unit
-        → IsSystemAt (P.meaning system.old.parts.program) s (opening P.Value) system.old
-        → GoesOn result (P.meaning system.old.parts.program) s (names_of files.entry) events.now
+        → (s : Setting P.Value) (from : SystemWorld P.Value) → s.fractions ≡ unit
+        → IsSystemAt (P.meaning system.old.parts.program) s from system.old
+        → GoesOn result (P.meaning system.old.parts.program) s (at_world from)
+        (names_of files.entry) events.now
         system.new lines.new (W.shows p world.old) (W.shows p world.new) }
+    ensures released { (p : Start) → W.honest p world.new
+        → IfOk result
+        (λ o. IsOutput o.released (names_of files.entry).released (W.shows p world.new)) }
     ensures schedule { (p : Start) → W.honest p world.new
         → IfOk result
-        (λ file. IsOutput file (names_of files.entry).schedule (W.shows p world.new)) }
+        (λ o. IsOutput o.schedule (names_of files.entry).schedule (W.shows p world.new)) }
     ensures before { (p : Start) → W.honest p world.new → W.honest p world.old }
 {
     let outputs = open_outputs(world, files, unit)?;
     perform_events(alloc, world, outputs.released, system, events, lines)?;
-    Ok(outputs.schedule)
+    Ok(outputs)
+}
+
+/// Runs the events of a script from where a system is, and writes the outputs, from their creation to the last line.
+pub fn run_from<P: Program, W: World>(
+    alloc: Global,
+    world: &mut W,
+    files: RunFiles<'_>,
+    unit: Unit,
+    events: &[Event],
+    system: System<P>,
+) -> Result<(), RunError>
+    requires room { (W.ledger world.old).given < 2 ^ 32 - 2 }
+    requires apart { files.released.now ≡ files.schedule.now → ⊥ }
+    requires runs { system.stopped ≡ false }
+    requires somewhere { IsSomewhere (P.meaning system.parts.program) system }
+    ensures writes_files { WritesFiles W.ledger W.healthy 2 world.old world.new }
+    ensures cause { IsErrOf result RunError.WriteFault
+        → WritingFailed W.ledger W.healthy world.old world.new }
+    ensures shows { (p : Start) → W.honest p world.new
+        → (s : Setting P.Value) (from : SystemWorld P.Value) → s.fractions ≡ unit
+        → IsSystemAt (P.meaning system.parts.program) s from system
+        → RunsFrom result s (at_world from) (names_of files.entry) events.now
+        (W.shows p world.old) (W.shows p world.new) }
+    ensures before { (p : Start) → W.honest p world.new → W.honest p world.old }
+{
+    let mut system = system;
+    let mut lines = Bytes::new(alloc);
+    match write_events(alloc, world, files, unit, events, &mut system, &mut lines) {
+        Ok(outputs) => {
+            let ended = close_run(alloc, world, outputs.schedule, system, &mut lines);
+            written(ended)
+        }
+        Err(error) => {
+            system.discard();
+            Err(error)
+        }
+    }
 }
 
 /// Runs a program on the packets, by the events of a script, and writes the outputs.
@@ -85,25 +131,6 @@ pub fn run_script<P: Program, W: World>(
         (names_of files.entry) run.events (W.shows p world.old) (W.shows p world.new) }
     ensures before { (p : Start) → W.honest p world.new → W.honest p world.old }
 {
-    let mut system = System::new(alloc, program, run.threads, run.seed, run.unit, run.packets)?;
-    let mut lines = Bytes::new(alloc);
-    let events = run.events.as_slice();
-    match write_events(
-        alloc,
-        world,
-        files,
-        run.unit,
-        events,
-        &mut system,
-        &mut lines,
-    ) {
-        Ok(schedule) => {
-            let ended = close_run(alloc, world, schedule, system, &mut lines);
-            written(ended)
-        }
-        Err(error) => {
-            system.discard();
-            Err(error)
-        }
-    }
+    let system = System::new(alloc, program, run.threads, run.seed, run.unit, run.packets)?;
+    run_from(alloc, world, files, run.unit, run.events.as_slice(), system)
 }

@@ -4,6 +4,7 @@ ghost use Rattle.recovery_world.specs.declared.event.Event.{Event as EventKind};
 ghost use Rattle.recovery_world.specs.World.{Setting};
 ghost use Rattle.output_files.specs.Writes.{IsOutput, KeepsOutputs};
 ghost use Rattle.output_files.specs.Written.{OnlyWrites};
+ghost use Rattle.run_writes.specs.Replies.{Point};
 ghost use Rattle.run_writes.specs.Run.{OutputNames};
 ghost use Rattle.run_command.specs.Running.{GoesOn, HasCome, IsSomewhere};
 
@@ -37,13 +38,13 @@ pub fn perform_event<P: Program, W: World>(
     ensures cause { IsErrOf result RunError.WriteFault
         → WritingFailed W.ledger W.healthy world.old world.new }
     ensures shows { (p : Start) → W.honest p world.new
-        → (s : Setting P.Value) (names : OutputNames)
+        → (s : Setting P.Value) (from : Point P.Value) (names : OutputNames)
         (events : List EventKind) (before : Shown)
         → IsOutput file names.released (W.shows p world.old)
-        → HasCome (P.meaning system.old.parts.program) s names events system.old lines.old before
-        (W.shows p world.old)
-        → GoesOn result (P.meaning system.old.parts.program) s names (events ++ event.now ∷ [])
-        system.new lines.new before (W.shows p world.new) }
+        → HasCome (P.meaning system.old.parts.program) s from names events system.old lines.old
+        before (W.shows p world.old)
+        → GoesOn result (P.meaning system.old.parts.program) s from names
+        (events ++ event.now ∷ []) system.new lines.new before (W.shows p world.new) }
     ensures keeps { (p : Start) → W.honest p world.new
         → KeepsOutputs (W.shows p world.old) (W.shows p world.new) }
     ensures before { (p : Start) → W.honest p world.new → W.honest p world.old }
@@ -65,16 +66,18 @@ pub fn perform_events<P: Program, W: World>(
     requires somewhere { IsSomewhere (P.meaning system.old.parts.program) system.old }
     requires writable { IsTrue (is_writable (W.ledger world.old) file) }
     ensures runs { OnOk result (system.new.stopped ≡ false) }
+    ensures somewhere { OnOk result
+        (IsSomewhere (P.meaning system.old.parts.program) system.new) }
     ensures program { OnOk result (system.new.parts.program ≡ system.old.parts.program) }
     ensures only_writes { OnlyWrites W.ledger W.healthy world.old world.new }
     ensures cause { IsErrOf result RunError.WriteFault
         → WritingFailed W.ledger W.healthy world.old world.new }
     ensures shows { (p : Start) → W.honest p world.new
-        → (s : Setting P.Value) (names : OutputNames) (before : Shown)
+        → (s : Setting P.Value) (from : Point P.Value) (names : OutputNames) (before : Shown)
         → IsOutput file names.released (W.shows p world.old)
-        → HasCome (P.meaning system.old.parts.program) s names [] system.old lines.old before
+        → HasCome (P.meaning system.old.parts.program) s from names [] system.old lines.old before
         (W.shows p world.old)
-        → GoesOn result (P.meaning system.old.parts.program) s names events.now
+        → GoesOn result (P.meaning system.old.parts.program) s from names events.now
         system.new lines.new before (W.shows p world.new) }
     ensures keeps { (p : Start) → W.honest p world.new
         → KeepsOutputs (W.shows p world.old) (W.shows p world.new) }

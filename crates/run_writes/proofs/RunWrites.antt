@@ -12,14 +12,15 @@ use Rattle.plain_machine.specs.declared.plain_move.PlainMove.{PlainMove}
 use Rattle.plain_player.specs.ScheduleText.{schedule_text}
 use Rattle.world_io.specs.World.{Shown}
 use Rattle.recovery_world.specs.declared.event.Event.{Event}
-use Rattle.recovery_world.specs.World.{Setting, opening}
+use Rattle.recovery_world.specs.World.{Setting, World as SystemWorld}
 use Rattle.recovery_world.specs.Files.{done_line, moves_made, packets_of}
 use Rattle.recovery_laws.proofs.ReleasedOutputs.{stops_grow}
-use Rattle.output_files.specs.Writes.{report_file, Write, after_writes, reported, HasWritten, HasBegun}
+use Rattle.output_files.specs.Writes.{report_file, Write, Appends, Reports, after_writes, reported, HasWritten}
+use Rattle.output_files.specs.Writes.{HasBegun}
 use Rattle.output_files.proofs.Effects.{Compared, IsSame, Differs, compared, reported_more, begun_before, after_more}
-use Rattle.run_writes.specs.Replies.{Reply, Opens, newly_released, released_in, lines_in}
+use Rattle.run_writes.specs.Replies.{Reply, Opens, at_world, newly_released, released_in, lines_in}
 use Rattle.run_writes.specs.Run.{OutputNames, FitsRecord, opening_writes, release_writes, replies_writes, writes_of}
-use Rattle.run_writes.specs.Run.{closing_writes, WritesUntil, WritesAll, HasFiles, HasRun, HasStopped, HasBegunRun}
+use Rattle.run_writes.specs.Run.{closing_writes, WritesUntil, WritesAll, HasFiles, HasRun, HasStopped, HasBegunFrom}
 use Rattle.run_writes.proofs.ScriptAnswers.{answers_perform, answers_release, released_then}
 
 pub same_name : (name : List ℕ) → bytes_eq name name ≡ true
@@ -106,33 +107,48 @@ module _ (names : OutputNames) (u : FractionUnit) (apart : names.released ≡ na
   pub lines_are : (replies : List Reply) → reported (writes_of names u replies) ≡ lines_in replies
   lines_are replies = lines_after names.released replies
 
+  -- behind the replies a text was written to the second output, and a line to the report
+  pub text_files : (replies : List Reply) (text line : List ℕ) (a b : Shown)
+      → HasWritten (writes_of names u replies ++ (Appends names.schedule text ∷ Reports line ∷ [])) a b
+      → HasFiles names u (released_in replies) text (lines_in replies ++ line) a b
+  text_files replies text line a b w =
+      let ending : List Write = Appends names.schedule text ∷ Reports line ∷ [] in
+      record {
+        released_is =
+            w.names names.released
+            ∙ after_more names.released (writes_of names u replies) ending (a.names names.released)
+            ∙ rw (other_name names.schedule names.released flipped) (captured replies (a.names names.released));
+        schedule_is =
+            w.names names.schedule
+            ∙ after_more names.schedule (writes_of names u replies) ending (a.names names.schedule)
+            ∙ ap (after_writes names.schedule ending) (scheduled replies (a.names names.schedule))
+            ∙ rw (same_name names.schedule) refl;
+        report_is =
+            w.report
+            ∙ ap (λ l. a.sent report_file ++ l)
+            (reported_more (writes_of names u replies) ending
+            ∙ ap (λ l. l ++ (line ++ [])) (lines_are replies)
+            ∙ ap (λ l. lines_in replies ++ l) (append-nil line));
+        others = λ name one two.
+            w.names name
+            ∙ after_more name (writes_of names u replies) ending (a.names name)
+            ∙ rw (other_name names.schedule name (λ e. two (sym e))) (kept replies name (a.names name) one two);
+      }
+
   -- the run is finished
   pub whole_files : (replies : List Reply) (schedule : List PlainMove) (line : List ℕ) (a b : Shown)
       → HasWritten (writes_of names u replies ++ closing_writes names schedule line) a b
       → HasFiles names u (released_in replies) (schedule_text schedule) (lines_in replies ++ line) a b
-  whole_files replies schedule line a b w = record {
-    released_is =
-        w.names names.released
-        ∙ after_more names.released (writes_of names u replies) (closing_writes names schedule line)
-        (a.names names.released)
-        ∙ rw (other_name names.schedule names.released flipped) (captured replies (a.names names.released));
-    schedule_is =
-        w.names names.schedule
-        ∙ after_more names.schedule (writes_of names u replies) (closing_writes names schedule line)
-        (a.names names.schedule)
-        ∙ ap (after_writes names.schedule (closing_writes names schedule line))
-        (scheduled replies (a.names names.schedule))
-        ∙ rw (same_name names.schedule) refl;
-    report_is =
-        w.report
-        ∙ ap (λ l. a.sent report_file ++ l)
-        (reported_more (writes_of names u replies) (closing_writes names schedule line)
-        ∙ ap (λ l. l ++ (line ++ [])) (lines_are replies)
-        ∙ ap (λ l. lines_in replies ++ l) (append-nil line));
-    others = λ name one two.
-        w.names name
-        ∙ after_more name (writes_of names u replies) (closing_writes names schedule line) (a.names name)
-        ∙ rw (other_name names.schedule name (λ e. two (sym e))) (kept replies name (a.names name) one two);
+  whole_files replies schedule line a b w = text_files replies (schedule_text schedule) line a b w
+
+  -- nothing was written behind the replies
+  pub bare_files : (replies : List Reply) (a b : Shown) → HasWritten (writes_of names u replies) a b
+      → HasFiles names u (released_in replies) [] (lines_in replies) a b
+  bare_files replies a b w = record {
+    released_is = w.names names.released ∙ captured replies (a.names names.released);
+    schedule_is = w.names names.schedule ∙ scheduled replies (a.names names.schedule);
+    report_is = w.report ∙ ap (λ l. a.sent report_file ++ l) (lines_are replies);
+    others = λ name one two. w.names name ∙ kept replies name (a.names name) one two;
   }
 
   -- an event stopped at a limit
@@ -228,16 +244,16 @@ has_stopped s names events limit writes a b apart until w =
     }
 
 -- Where nothing was performed yet, an opening was begun.
-pub nothing_begun : {V : Type 0} (s : Setting V) (names : OutputNames) (events : List Event) (a b : Shown)
-    → HasBegun (opening_writes names s.fractions) a b → HasBegunRun s names events a b
-nothing_begun {V} s names events a b begun = (
+pub nothing_begun : {V : Type 0} (s : Setting V) (w : SystemWorld V) (names : OutputNames) (events : List Event)
+    (a b : Shown) → HasBegun (opening_writes names s.fractions) a b → HasBegunFrom s (at_world w) names events a b
+nothing_begun {V} s w names events a b begun = (
   writes_of names s.fractions [],
   inl (record {
     before = [];
     after = events;
     events_are = refl;
     replies = [];
-    world = opening V;
+    world = w;
     answers = Opens;
     writes_are = refl;
   }),

@@ -8,7 +8,7 @@ use Rattle.recovery_world.specs.World.{Setting, Sent, World as SystemWorld, open
 use Rattle.recovery_world.specs.Many.{OnAny}
 use Rattle.recovery_world.specs.Files.{Performs, Rests, Goes as GoesFirst, reply_line, packets_of}
 use Rattle.recovery_laws.proofs.ReleasedOutputs.{Grows, any_grows}
-use Rattle.run_writes.specs.Replies.{Reply, Answers, Opens, Goes, newly_released, released_in, lines_in}
+use Rattle.run_writes.specs.Replies.{Reply, AnswersFrom, Answers, Opens, Goes, newly_released, released_in, lines_in}
 
 -- one more event at the end
 performs_more : {V : Type 0} (s : Setting V) (w mid new : SystemWorld V) (events : List Event) (lines : List ℕ)
@@ -34,13 +34,30 @@ released_more [] r = append-nil r.released
 released_more (x ∷ replies) r =
     ap (λ l. x.released ++ l) (released_more replies r) ∙ sym (append_assoc x.released (released_in replies) r.released)
 
-pub answers_perform : {V : Type 0} (s : Setting V) (events : List Event) (replies : List Reply) (w : SystemWorld V)
-    → Answers s events replies w → Performs s (opening V) events (lines_in replies) w
-answers_perform {V} s events replies w Opens = Rests (opening V)
-answers_perform {V} s events replies w (Goes {events = before} {replies = earlier} {w = mid} ev to freed rest on) =
+pub answers_perform : {V : Type 0} {from : SystemWorld V} (s : Setting V) (events : List Event) (replies : List Reply)
+    (w : SystemWorld V) → AnswersFrom s from events replies w → Performs s from events (lines_in replies) w
+answers_perform {V} {from} s events replies w Opens = Rests from
+answers_perform {V} {from} s events replies w
+    (Goes {events = before} {replies = earlier} {w = mid} ev to freed rest on) =
     let r : Reply = record { released = newly_released mid w; line = reply_line ev to freed } in
-    subst (λ (l : List ℕ). Performs s (opening V) (before ++ ev ∷ []) l w) (sym (lines_more earlier r)) (performs_more s
-    (opening V) mid w before (lines_in earlier) ev to freed (answers_perform s before earlier mid rest) on)
+    subst (λ (l : List ℕ). Performs s from (before ++ ev ∷ []) l w) (sym (lines_more earlier r)) (performs_more s from
+    mid w before (lines_in earlier) ev to freed (answers_perform s before earlier mid rest) on)
+
+-- events, and then more of them
+pub answers_then : {V : Type 0} (s : Setting V) (from mid : SystemWorld V) (events rest : List Event)
+    (replies more : List Reply) (w : SystemWorld V) → AnswersFrom s from events replies mid
+    → AnswersFrom s mid rest more w → AnswersFrom s from (events ++ rest) (replies ++ more) w
+answers_then s from mid events rest replies more w first Opens =
+    subst (λ (l : List Reply). AnswersFrom s from (events ++ []) l mid) (sym (append-nil replies))
+    (subst (λ (l : List Event). AnswersFrom s from l replies mid) (sym (append-nil events)) first)
+answers_then s from mid events rest replies more w first
+    (Goes {events = before} {replies = earlier} {w = last} ev to freed others on) =
+    let r : Reply = record { released = newly_released last w; line = reply_line ev to freed } in
+    subst (λ (l : List Reply). AnswersFrom s from (events ++ (before ++ ev ∷ [])) l w)
+    (append_assoc replies earlier (r ∷ []))
+    (subst (λ (l : List Event). AnswersFrom s from l ((replies ++ earlier) ++ r ∷ []) w)
+    (append_assoc events before (ev ∷ []))
+    (Goes ev to freed (answers_then s from mid events before replies earlier last first others) on))
 
 packets_more : (first more : List Sent) → packets_of (first ++ more) ≡ packets_of first ++ packets_of more
 packets_more [] more = refl
@@ -56,11 +73,31 @@ released_then w new grows =
     ∙ packets_more w.released grows.0
     ∙ ap (λ (l : List Sent). packets_of w.released ++ packets_of l) (sym rest)
 
-pub answers_release : {V : Type 0} (s : Setting V) (events : List Event) (replies : List Reply) (w : SystemWorld V)
-    → Answers s events replies w → packets_of w.released ≡ released_in replies
-answers_release s events replies w Opens = refl
-answers_release s events replies w (Goes {events = before} {replies = earlier} {w = mid} ev to freed rest on) =
+-- what was released before, and what the events released
+pub answers_release_more : {V : Type 0} (s : Setting V) (from : SystemWorld V) (events : List Event)
+    (replies : List Reply) (w : SystemWorld V) → AnswersFrom s from events replies w
+    → packets_of w.released ≡ packets_of from.released ++ released_in replies
+answers_release_more s from events replies w Opens = sym (append-nil (packets_of from.released))
+answers_release_more s from events replies w
+    (Goes {events = before} {replies = earlier} {w = mid} ev to freed rest on) =
     let r : Reply = record { released = newly_released mid w; line = reply_line ev to freed } in
     released_then mid w (any_grows s mid ev to freed w on)
-    ∙ ap (λ l. l ++ newly_released mid w) (answers_release s before earlier mid rest)
-    ∙ sym (released_more earlier r)
+    ∙ ap (λ l. l ++ newly_released mid w) (answers_release_more s from before earlier mid rest)
+    ∙ append_assoc (packets_of from.released) (released_in earlier) (newly_released mid w)
+    ∙ ap (λ l. packets_of from.released ++ l) (sym (released_more earlier r))
+
+pub answers_release : {V : Type 0} (s : Setting V) (events : List Event) (replies : List Reply) (w : SystemWorld V)
+    → Answers s events replies w → packets_of w.released ≡ released_in replies
+answers_release {V} s events replies w answers = answers_release_more s (opening V) events replies w answers
+
+pub lines_join : (replies more : List Reply) → lines_in (replies ++ more) ≡ lines_in replies ++ lines_in more
+lines_join [] more = refl
+lines_join (x ∷ replies) more =
+    ap (λ l. x.line ++ l) (lines_join replies more) ∙ sym (append_assoc x.line (lines_in replies) (lines_in more))
+
+pub released_join : (replies more : List Reply)
+    → released_in (replies ++ more) ≡ released_in replies ++ released_in more
+released_join [] more = refl
+released_join (x ∷ replies) more =
+    ap (λ l. x.released ++ l) (released_join replies more)
+    ∙ sym (append_assoc x.released (released_in replies) (released_in more))

@@ -23,7 +23,7 @@ use Rattle.recovery_world.specs.Files.{one, two, done_line, moves_made, Leaves, 
 use Rattle.output_files.specs.Writes.{report_file, Write, Creates, Appends, Reports, HasWritten, HasBegun}
 use Rattle.run_writes.specs.declared.opening.ScriptRun.{ScriptRun}
 use Rattle.run_writes.specs.declared.opening.RunFiles.{RunFiles}
-use Rattle.run_writes.specs.Replies.{Reply, Answers, newly_released, released_in}
+use Rattle.run_writes.specs.Replies.{Reply, AnswersFrom, Point, beginning, newly_released, released_in}
 
 -- The inputs of a run, and its outputs
 
@@ -84,50 +84,66 @@ counts_line fed epoch released =
 abbrev pub closing_writes : OutputNames → List PlainMove → List ℕ → List Write
 closing_writes names schedule line = Appends names.schedule (schedule_text schedule) ∷ Reports line ∷ []
 
--- Some of the events were performed, in order, and this is what they write.
-pub record WritesSome {V : Type 0} (s : Setting V) (names : OutputNames) (events : List Event)
+-- Some of the events were performed, in order, from this point, and this is what they write.
+pub record WritesSomeFrom {V : Type 0} (s : Setting V) (from : Point V) (names : OutputNames) (events : List Event)
     (writes : List Write) : Type 0 where
   pub before : List Event
   pub after : List Event
   pub events_are : events ≡ before ++ after
   pub replies : List Reply
   pub world : SystemWorld V
-  pub answers : Answers s before replies world
-  pub writes_are : writes ≡ writes_of names s.fractions replies
+  pub answers : AnswersFrom s from.world before replies world
+  pub writes_are : writes ≡ writes_of names s.fractions (from.replies ++ replies)
 
 -- An event stopped at this limit: behind what the events before it write stand the records of what it released.
-pub record WritesUntil {V : Type 0} (s : Setting V) (names : OutputNames) (events : List Event) (limit : Limit)
-    (writes : List Write) : Type 0 where
+pub record WritesUntilFrom {V : Type 0} (s : Setting V) (from : Point V) (names : OutputNames) (events : List Event)
+    (limit : Limit) (writes : List Write) : Type 0 where
   pub before : List Event
   pub event : Event
   pub after : List Event
   pub events_are : events ≡ before ++ event ∷ after
   pub replies : List Reply
   pub there : SystemWorld V
-  pub answers : Answers s before replies there
+  pub answers : AnswersFrom s from.world before replies there
   pub world : SystemWorld V
   pub stops : Stops s there event limit world
   pub writes_are : writes
-      ≡ writes_of names s.fractions replies ++ release_writes names.released (newly_released there world)
+      ≡ writes_of names s.fractions (from.replies ++ replies)
+      ++ release_writes names.released (newly_released there world)
 
 -- All events were performed, and the run is finished.
-pub record WritesAll {V : Type 0} (s : Setting V) (names : OutputNames) (events : List Event)
+pub record WritesAllFrom {V : Type 0} (s : Setting V) (from : Point V) (names : OutputNames) (events : List Event)
     (writes : List Write) : Type 0 where
   pub replies : List Reply
   pub world : SystemWorld V
-  pub answers : Answers s events replies world
+  pub answers : AnswersFrom s from.world events replies world
   pub steps : List (Step V)
   pub finish : IsFinish s world steps
   pub fit_records : All FitsRecord (released_in replies)
   pub fit_lines : FitLines (moves_made steps)
   pub writes_are : writes
-      ≡ writes_of names s.fractions replies ++ closing_writes names (moves_made steps) (done_line world)
+      ≡ writes_of names s.fractions (from.replies ++ replies)
+      ++ closing_writes names (moves_made steps) (done_line world)
 
--- a run of these events writes this, so far as it comes
+-- a run of these events from this point writes this, so far as it comes
+abbrev pub IsWrittenFrom : {V : Type 0} → Setting V → Point V → OutputNames → List Event → List Write → Type 0
+IsWrittenFrom s from names events writes =
+    WritesSomeFrom s from names events writes
+    ⊎ (((limit : Limit) × WritesUntilFrom s from names events limit writes) ⊎ WritesAllFrom s from names events writes)
+
+-- the same of a script, from its beginning
+
+abbrev pub WritesSome : {V : Type 0} → Setting V → OutputNames → List Event → List Write → Type 0
+WritesSome {V} s names events writes = WritesSomeFrom s (beginning V) names events writes
+
+abbrev pub WritesUntil : {V : Type 0} → Setting V → OutputNames → List Event → Limit → List Write → Type 0
+WritesUntil {V} s names events limit writes = WritesUntilFrom s (beginning V) names events limit writes
+
+abbrev pub WritesAll : {V : Type 0} → Setting V → OutputNames → List Event → List Write → Type 0
+WritesAll {V} s names events writes = WritesAllFrom s (beginning V) names events writes
+
 abbrev pub IsWritten : {V : Type 0} → Setting V → OutputNames → List Event → List Write → Type 0
-IsWritten s names events writes =
-    WritesSome s names events writes
-    ⊎ (((limit : Limit) × WritesUntil s names events limit writes) ⊎ WritesAll s names events writes)
+IsWritten {V} s names events writes = IsWrittenFrom s (beginning V) names events writes
 
 -- What a call leaves
 
@@ -169,12 +185,20 @@ pub record HasStopped {V : Type 0} (s : Setting V) (names : OutputNames) (events
   pub leaves : LeavesAt s events limit report released
   pub files : HasFiles names s.fractions released [] report old new
 
--- some first part of what a run of these events writes was written, and nothing else
-abbrev pub HasBegunRun : {V : Type 0} → Setting V → OutputNames → List Event → Shown → Shown → Type 0
-HasBegunRun s names events old new = (writes : List Write) × IsWritten s names events writes × HasBegun writes old new
+-- some first part of what a run of these events from this point writes was written, and nothing else
+abbrev pub HasBegunFrom : {V : Type 0} → Setting V → Point V → OutputNames → List Event → Shown → Shown → Type 0
+HasBegunFrom s from names events old new =
+    (writes : List Write) × IsWrittenFrom s from names events writes × HasBegun writes old new
 
--- All of what the run of the events writes was written, or after an error some first part of it.
+abbrev pub HasBegunRun : {V : Type 0} → Setting V → OutputNames → List Event → Shown → Shown → Type 0
+HasBegunRun {V} s names events old new = HasBegunFrom s (beginning V) names events old new
+
+-- All of what the run of the events from this point writes was written, or after an error some first part of it.
+abbrev pub FinishesFrom : {V E : Type 0} → Result ⊤ E → Setting V → Point V → OutputNames → List Event → Shown → Shown
+    → Type 0
+FinishesFrom (Ok done) s from names events old new =
+    (writes : List Write) × WritesAllFrom s from names events writes × HasWritten writes old new
+FinishesFrom (Err error) s from names events old new = HasBegunFrom s from names events old new
+
 abbrev pub Finishes : {V E : Type 0} → Result ⊤ E → Setting V → OutputNames → List Event → Shown → Shown → Type 0
-Finishes (Ok done) s names events old new =
-    (writes : List Write) × WritesAll s names events writes × HasWritten writes old new
-Finishes (Err error) s names events old new = HasBegunRun s names events old new
+Finishes {V} result s names events old new = FinishesFrom result s (beginning V) names events old new

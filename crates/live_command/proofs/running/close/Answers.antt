@@ -19,7 +19,7 @@ returns-clause-told g c p honest s names events w before apart is lived =
     let short = subst (λ (n : ℕ). n ≤ most_bytes) (sym kept.size) c.requires.short in
     rw c.written.ensures (ends (g.P.Program.meaning c.args.system.parts.program) s names apart events w c.args.system
     before c.args.lines.now c.write_script.new.script _ k kept.none few short _ c.close_run-ended.result
-    (c.close_run-ended.ensures.shows p honest s names.outputs events (holding names.script k.written before)
+    (c.close_run-ended.ensures.shows p honest s _ names.outputs events (holding names.script k.written before)
     (kept.keeps p earlier _ _ is.schedule)
     (come_beside (g.P.Program.meaning c.args.system.parts.program) s names apart events w c.args.system before
     c.args.lines.now c.write_script.new.script _ k kept.none lived.at)))

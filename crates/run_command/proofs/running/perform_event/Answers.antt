@@ -19,7 +19,7 @@ returns-clause-somewhere g c =
     c.requires.somewhere
 
 pub returns-clause-shows : goal.returns-clause-shows
-returns-clause-shows g c p h s names events before is come =
-    performed_goes (g.P.Program.meaning c.args.system.now.parts.program) s names events c.args.system.now
+returns-clause-shows g c p h s from names events before is come =
+    performed_goes (g.P.Program.meaning c.args.system.now.parts.program) s from names events c.args.system.now
     c.args.lines.now before _ come c.args.event.now _ _ _ c.perform-performed.new.system _ _
     c.perform-performed.ensures.comes (c.write_performed.ensures.shows p h before _ names.released is come.gathered)

@@ -1,0 +1,5 @@
+pub mod RestingWorlds
+pub mod HandSteps
+pub mod HandEnds
+pub mod Resuming
+pub mod ImageTexts

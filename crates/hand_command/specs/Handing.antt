@@ -1,0 +1,52 @@
+-- A hand-over within its steps.
+use Rattle.std.specs.Prelude.{◌≡◌, ◌⊎◌, All, List, ◌++◌, Result, Ok, Err, ⊤}
+use Rattle.world_io.specs.World.{Shown}
+use Rattle.recovery_world.specs.declared.event.Event.{Event}
+use Rattle.recovery_world.specs.World.{Setting, World as SystemWorld}
+use Rattle.recovery_world.specs.Files.{done_line}
+use Rattle.handover.specs.declared.image.Image.{Image}
+use Rattle.handover.specs.Images.{FitsImage}
+use Rattle.handover_world.specs.declared.unready.Unready.{Unready}
+use Rattle.handover_world.specs.Images.{IsImageOf}
+use Rattle.handover_world.specs.Ready.{IsReadiness}
+use Rattle.output_files.specs.declared.error.OutputError.{OutputError}
+use Rattle.output_files.specs.Writes.{Write, HasWritten, HasBegun}
+use Rattle.run_writes.specs.Replies.{Reply, Answers, beginning, released_in}
+use Rattle.run_writes.specs.Run.{OutputNames, FitsRecord, writes_of}
+use Rattle.run_command.specs.Running.{StoppedThere}
+use Rattle.hand_command.specs.declared.error.HandError.{HandError}
+use Rattle.hand_command.specs.declared.error.HandError.TheVariants as hand
+use Rattle.hand_command.specs.Hand.{resting, image_writes, WritesHandover, HasBegunHand}
+
+-- Behind these writes the image of the world was written, and the last line; or after an error some first part of all
+-- that, where there may be no image yet.
+abbrev pub WritesImage : {V : Type 0} → Result ⊤ OutputError → Setting V → SystemWorld V → OutputNames → List Write
+    → Shown → Shown → Type 0
+WritesImage (Ok done) s w names writes old new =
+    (image : Image) × IsImageOf s w image × FitsImage image
+    × HasWritten (writes ++ image_writes names image (done_line w)) old new
+WritesImage (Err error) s w names writes old new =
+    HasBegun writes old new ⊎ ((image : Image) × IsImageOf s w image × FitsImage image
+    × HasBegun (writes ++ image_writes names image (done_line w)) old new)
+
+-- The events were performed and all that they leave was written, and the system is not ready for this cause.
+pub record LeftUnready {V : Type 0} (s : Setting V) (names : OutputNames) (events : List Event) (unready : Unready)
+    (old new : Shown) : Type 0 where
+  pub replies : List Reply
+  pub world : SystemWorld V
+  pub answers : Answers s events replies world
+  pub readiness : IsReadiness world (Err unready)
+  pub fit_records : All FitsRecord (released_in replies)
+  pub written : HasWritten (writes_of names s.fractions replies) old new
+
+-- What a hand-over behind these events came to: all was written; or an event stopped at a limit; or the system is not
+-- ready; or some first part was written.
+abbrev pub EndsHand : {V : Type 0} → Result ⊤ HandError → Setting V → OutputNames → List Event → Shown → Shown
+    → Type 0
+EndsHand (Ok done) s names events old new =
+    (writes : List Write) × WritesHandover s names events writes × HasWritten writes old new
+EndsHand {V} (Err (hand.Limit limit)) s names events old new =
+    StoppedThere s (beginning V) names (events ++ resting) limit old new
+EndsHand (Err hand.WriteFault) s names events old new = HasBegunHand s names events old new
+EndsHand (Err hand.NoMemory) s names events old new = HasBegunHand s names events old new
+EndsHand (Err (hand.Unready unready)) s names events old new = LeftUnready s names events unready old new

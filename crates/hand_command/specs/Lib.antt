@@ -1,0 +1,4 @@
+pub mod Errors
+pub mod Hand
+pub mod Handing
+pub mod Resume
