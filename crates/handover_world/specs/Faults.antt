@@ -61,7 +61,7 @@ IsOutputIn steps output = (1 ≤ output.1) × (output.1 ≤ outputs output.0 (se
 abbrev pub AreReleased : {V : Type 0} → List (Step V) → List (ℕ × ℕ) → Type 0
 AreReleased steps outputs =
     (before rest : List (ℕ × ℕ)) (output : ℕ × ℕ) → outputs ≡ before ++ output ∷ rest
-    → IsOutputIn steps output × (Contains output before → ⊥)
+    → IsOutputIn steps output × (Contains before output → ⊥)
 
 -- the first that is not, by its place from 1
 pub record WrongReleased {V : Type 0} (steps : List (Step V)) (outputs : List (ℕ × ℕ)) (place : ℕ) : Type 0 where
@@ -71,7 +71,7 @@ pub record WrongReleased {V : Type 0} (steps : List (Step V)) (outputs : List (�
   pub outputs_are : outputs ≡ before ++ output ∷ rest
   pub place_is : place ≡ length before + 1
   pub good : AreReleased steps before
-  pub wrong : (IsOutputIn steps output → ⊥) ⊎ Contains output before
+  pub wrong : (IsOutputIn steps output → ⊥) ⊎ Contains before output
 
 -- The image has no fault.
 pub record HasNoFault {V : Type 0} (s : Setting V) (image : Image) : Type 0 where
