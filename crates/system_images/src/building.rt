@@ -35,7 +35,7 @@ pub fn turn_epochs<P: Program>(core: &mut Core<P>, many: u32) -> Result<(), NoMe
     requires stands { StandsForSome (P.meaning core.old.program) core.old }
     ensures { OnOk result (MovesOn (P.meaning core.old.program) (Turns many) core.old core.new) }
 {
-    for _ in 0..many {
+    'turns: for _ in 0..many {
         turn(core)?;
     }
     Ok(())

@@ -1,6 +1,7 @@
 ghost use Rattle.std.specs.Prelude.{◌≡◌, ◌<◌};
 ghost use Rattle.entry_order.specs.Log.{entries};
 ghost use Rattle.handover_world.specs.Ready.{AreBehind, AreLeft, IsReadiness};
+ghost use Rattle.plain_machine.specs.History.{outputs, sent_of};
 ghost use Rattle.recovery_world.specs.World.{Setting, World};
 ghost use Rattle.system_parts.specs.SystemStanding.{StandsFor};
 
@@ -37,17 +38,21 @@ fn left<P: Program>(core: &Core<P>) -> u64
 }
 
 /// How many outputs of a thread the master sent out.
-fn outputs_of<P: Program>(core: &Core<P>, thread: u32) -> u64 {
+fn outputs_of<P: Program>(core: &Core<P>, thread: u32) -> u64
+    ensures { (s : Setting P.Value) (w : World P.Value)
+        → StandsFor (P.meaning core.now.program) s w core.now
+        → result ≡ outputs thread (sent_of w.past) }
+{
     if thread >= core.inputs.threads() {
         return 0;
     }
     core.master.counts(thread).outputs
 }
 
-/// How many released outputs the master did not send out yet.
+/// How many released outputs a master that follows nothing more did not send out yet.
 fn behind<P: Program>(core: &Core<P>) -> u64
     ensures { (s : Setting P.Value) (w : World P.Value)
-        → StandsFor (P.meaning core.now.program) s w core.now → AreBehind w result }
+        → StandsFor (P.meaning core.now.program) s w core.now → AreLeft w 0 → AreBehind w result }
 {
     let mut behind = 0;
     for (thread, number) in core.released.as_slice() {

@@ -1,5 +1,5 @@
 //! The rows of the ended epochs: which is wrong, and what they say as counts.
-ghost use Rattle.std.specs.Prelude.{◌≡◌, ◌≤◌, ◌-◌, ◌+◌, ◌*◌, ◌/◌, ◌%◌, ◌&&◌, IfOk, List, nat_eq};
+ghost use Rattle.std.specs.Prelude.{◌≡◌, ◌≤◌, ◌<◌, ◌^◌, ◌-◌, ◌+◌, ◌*◌, ◌/◌, ◌%◌, ◌&&◌, IfOk, List, nat_eq};
 ghost use Rattle.std.specs.Prelude.{length};
 ghost use Rattle.handover_world.specs.Faults.{wrong_row as wrong_row_in};
 ghost use Rattle.handover_world.specs.Images.{ended_rows};
@@ -51,12 +51,13 @@ fn counts_behind(
     rows: &EndedList,
 ) -> Result<Sequence<Counts>, NoMemory>
     requires few { threads ≤ 16 }
+    requires within { before < 2 ^ 40 }
     ensures { IfOk result (λ counts. (x : EndedEpoch) → HasRows threads before rows.now x
         → AreCounts threads x counts) }
 {
     let mut counts = Sequence::new(alloc);
     for thread in 0..threads {
-        let place = before.saturating_add(u64::from(thread));
+        let place = before + u64::from(thread);
         if let Some(row) = rows.as_slice().get(place as usize) {
             counts.push(Counts {
                 taken: 0,
