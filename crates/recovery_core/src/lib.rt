@@ -7,6 +7,7 @@
 //! the run has been.
 #![tactic(auto)]
 
+mod handing;
 mod lacking;
 mod parting;
 mod system;

@@ -1,7 +1,11 @@
 -- What a system has still to make again and to send out again.
 use Rattle.std.proofs.Common.{◌≡◌, ℕ, zero, suc, ◌+◌, ◌*◌, ◌≤◌, ◌<◌, ◌⊎◌, List, [], ◌∷◌, ◌++◌, length, refl, sym, ap}
 use Rattle.std.proofs.Common.{◌∙◌, subst, inl, inr, arith, Option, Some, None, true, false}
-use Rattle.std.specs.Prelude.{◌^◌, ◌-◌, min, IsSome, cond, drop, nat_eq, nat_lt}
+use Rattle.std.proofs.lemmas.List.{drop_all}
+use Rattle.master_core.specs.declared.parts.Counts.{Counts}
+use Rattle.master_core.specs.declared.parts.ThreadPart.{ThreadPart}
+use Rattle.output_releases.proofs.Answering.{counted}
+use Rattle.std.specs.Prelude.{◌^◌, ◌-◌, HoldsAt, min, IsSome, cond, drop, nat_eq, nat_lt}
 use Rattle.std.proofs.lemmas.Bool.{cases_lt}
 use Rattle.std.proofs.lemmas.Bool.Decides.{nat_tests}
 use Rattle.entry_order.specs.Log.{Entry, entries, IsLog, IsIn, Keeps}
@@ -268,6 +272,64 @@ module _ {P V : Type 0} (m : Meaning V) (fits : ℕ → V → Type 0) (lawful : 
         omega (arith, sum, bound, is, threads);
   }
 
+-- From the parts of a system as its code has them
+
+module _ {P V : Type 0} (mean : P → Meaning V) (fits : P → ℕ → V → Type 0) (view now : Parts P V) (same : view ≡ now)
+    (lawful : IsLawful (mean view.program) (fits view.program))
+    (few : length view.inputs.packets + length view.left < 2 ^ 50) where
+  law_now : IsLawful (mean now.program) (fits now.program)
+  law_now = subst (λ (q : Parts P V). IsLawful (mean q.program) (fits q.program)) same lawful
+
+  few_now : length now.inputs.packets < 2 ^ 50
+  few_now =
+      let k : length now.inputs.packets + length now.left < 2 ^ 50 =
+      subst (λ (q : Parts P V). length q.inputs.packets + length q.left < 2 ^ 50) same few in omega (arith, k)
+
+  made_now : (s : Setting V) (w : World V) → StandsFor (mean now.program) s w now → (t : ℕ) (r : Counts)
+      → t < now.inputs.threads → HoldsAt (λ (part : ThreadPart). r ≡ part.counts) view.master.threads t
+      → r.entries ≡ entries t (log_of w.past)
+  made_now s w st t r low at = (counted (mean now.program) s w now st t r low
+      (subst (λ (q : Parts P V). HoldsAt (λ (part : ThreadPart). r ≡ part.counts) q.master.threads t) same at)).0
+
+  pub left_is : (s : Setting V) (w : World V) (st : StandsFor (mean now.program) s w now) (t number : ℕ) (r : Counts)
+      → t < now.inputs.threads → HoldsAt (λ (part : ThreadPart). r ≡ part.counts) view.master.threads t
+      → r.entries ≤ number → FoundTo now t r.entries number → entry_at (lane view.guide t) (number + 1) ≡ None
+      → number - r.entries ≡ entries t st.sound.firm.more
+  left_is s w st t number r low at up found none =
+      let made = made_now s w st t r low at in
+      let gone : entry_at (lane now.guide t) (number + 1) ≡ None =
+      subst (λ (q : Parts P V). entry_at (lane q.guide t) (number + 1) ≡ None) same none in
+      let k = counted_left (mean now.program) (fits now.program) law_now s w now st few_now t number r.entries made up
+      found (λ some. let is = some.1 in cc) in
+      omega (arith, k)
+
+  pub never_so_many : (s : Setting V) (w : World V) (st : StandsFor (mean now.program) s w now) (t number : ℕ)
+      (r : Counts) → t < now.inputs.threads → HoldsAt (λ (part : ThreadPart). r ≡ part.counts) view.master.threads t
+      → r.entries ≤ number → FoundTo now t r.entries number → number < 2 ^ 58
+  never_so_many s w st t number r low at up found =
+      never_full (mean now.program) (fits now.program) law_now s w now st few_now t number r.entries
+      (made_now s w st t r low at) up found
+
+  pub all_left : (t left : ℕ) → now.inputs.threads ≤ 16 → t ≡ now.inputs.threads
+      → LeftTo (mean now.program) now t left → (s : Setting V) (w : World V) → StandsFor (mean now.program) s w now
+      → AreLeft w left
+  all_left t left threads end so s w st =
+      let is : now.inputs.threads ≡ s.threads = ap (λ (f : Fed). f.threads) st.inputs.inputs in
+      are_left (mean now.program) (fits now.program) law_now s w now st few_now left (omega (arith, threads, is))
+      (so s w st
+      ∙ ap (λ (n : ℕ). min (sum_below n (λ u. entries u st.sound.firm.more)) (2 ^ 64 - 1)) (end ∙ is))
+
+pub left_more : {P V : Type 0} (m : Meaning V) (y : Parts P V) (t left here new : ℕ) → LeftTo m y t left
+    → ((s : Setting V) (w : World V) (st : StandsFor m s w y) → here ≡ entries t st.sound.firm.more)
+    → new ≡ min (left + here) (2 ^ 64 - 1) → LeftTo m y (t + 1) new
+left_more m y t left here new so is new_is s w st =
+    let k = so s w st in
+    let n = is s w st in
+    let q : sum_below (t + 1) (λ u. entries u st.sound.firm.more)
+    ≡ sum_below t (λ u. entries u st.sound.firm.more) + entries t st.sound.firm.more =
+    ap (λ n. sum_below n (λ u. entries u st.sound.firm.more)) (let r : t + 1 ≡ suc t = omega arith in r) in
+    omega (arith, k, n, q, new_is)
+
 -- Behind
 
 -- how many of these outputs were not sent out
@@ -401,3 +463,11 @@ module _ {P V : Type 0} (m : Meaning V) (s : Setting V) (w : World V) (y : Parts
         many_are = p.3 ∙ (ap (λ (l : List (ℕ × ℕ)). behind_in (λ t. outputs t (sent_of w.past)) l)
             (sym st.released) ∙ sym is);
       }
+
+pub all_behind : {P V : Type 0} (m : Meaning V) (y : Parts P V) (i many : ℕ) → length y.released ≤ i
+    → BehindTo m y i many → (s : Setting V) (w : World V) → StandsFor m s w y → AreLeft w 0 → AreBehind w many
+all_behind m y i many all so s w st left =
+    let none : behind_in (λ t. outputs t (sent_of w.past)) (drop i y.released) ≡ 0 =
+    ap (λ (l : List (ℕ × ℕ)). behind_in (λ t. outputs t (sent_of w.past)) l) (drop_all i y.released all) in
+    let k = so s w st in
+    are_behind m s w y st left many (omega (arith, k, none))

@@ -18,9 +18,9 @@ fn left_of<P: Program>(core: &Core<P>, thread: u32) -> u64
 {
     let made = core.master.counts(thread).entries;
     for number in made..u64::MAX {
-        if core.guide.get(thread, number + 1).is_none() {
+        let Some(_) = core.guide.get(thread, number + 1) else {
             return number - made;
-        }
+        };
     }
     u64::MAX - made
 }

@@ -14,7 +14,8 @@ use std::alloc::Global;
 
 /// Whether a row is that behind as many rows, of so many threads.
 fn is_row(threads: u32, before: u64, row: &Ended) -> bool
-    requires { 1 ≤ threads }
+    requires some { 1 ≤ threads }
+    requires within { before < 2 ^ 40 }
     ensures { result ≡ (nat_eq row.now.epoch (before / threads + 1)
         && nat_eq row.now.thread (before % threads)) }
 {
