@@ -4,7 +4,7 @@ use Rattle.std.proofs.Common.{◌∙◌, subst, inl, inr, arith, Bool, Option, S
 use Rattle.std.proofs.Common.{Result, Ok, Err}
 use Rattle.std.proofs.lemmas.List.{take_more, take_all, take-append-drop, length-take-le}
 use Rattle.std.proofs.Common.{append_assoc, drop, length-append}
-use Rattle.std.specs.Prelude.{Contains}
+use Rattle.std.specs.Prelude.{Contains, OnOk}
 use Rattle.access_log.specs.declared.entry.Output.{Output}
 use Rattle.plain_machine.specs.declared.plain_move.PlainMove.{PlainMove}
 use Rattle.plain_machine.specs.declared.plain_move.PlayCause.{PlayCause}
@@ -17,14 +17,27 @@ use Rattle.recovery_world.specs.declared.event.Outcome.{Outcome}
 use Rattle.recovery_world.specs.declared.event.Outcome.TheVariants as outcome
 use Rattle.recovery_world.specs.World.{Setting, World, inputs_fed}
 use Rattle.event_replies.specs.declared.reply.Reply.{Reply}
-use Rattle.handover_world.specs.Faults.{AreReleased, IsOutputIn, WrongReleased}
+use Rattle.handover.specs.declared.image.Image.{Image}
+use Rattle.handover_world.specs.declared.fault.ResumeError.{ResumeError}
+use Rattle.handover_world.specs.declared.fault.ResumeError.TheVariants.{Count, Move, Released, NoMemory}
+use Rattle.handover_world.specs.Faults.{AreReleased, IsFault, IsOutputIn, WrongReleased}
 use Rattle.system_parts.specs.Parts.{Parts}
 use Rattle.system_parts.specs.Performing.{ComesTo, MovesOn, Releasing, Replies}
 use Rattle.system_parts.specs.SystemStanding.{StandsFor, StandsForSome}
 use Rattle.system_parts.proofs.EventChains.{moves_as, moves_none, moves_then, stands_then}
 use Rattle.system_images.specs.Building.{IsBuilt, IsReleased, MakesAll, MakesOne, ReleasesAll, ReleasesOne, StoresAll}
-use Rattle.system_images.specs.Building.{Turns}
+use Rattle.system_images.specs.Building.{Builds, IsWrong, IsWrongBy, Turns}
+use Rattle.system_images.specs.Judging.{PlaysWhole}
 use Rattle.system_images.proofs.BuiltWorlds.{made, released_now, stored_now, turned}
+
+-- an answer that is made, and one that is an error
+pub on_ok : {A E : Type 0} (r : Result A E) (Q : Type 0) → Q → OnOk r Q
+on_ok (Ok x) Q q = q
+on_ok (Err e) Q q = tt
+
+pub on_err : {A E : Type 0} (r : Result A E) (e : E) (Q : Type 0) → r ≡ Err e → OnOk r Q
+on_err (Ok x) e Q is = absurd (cc)
+on_err (Err d) e Q is = tt
 
 abbrev pub Relation : Type 0 → Type 1
 Relation V = Setting V → World V → World V → Type 0
@@ -125,12 +138,13 @@ module _ {P V : Type 0} (m : P → Meaning V) where
 
   -- Moves
 
-  pub makes_one : (plain : PlainMove) (to : Outcome) (old new : Parts P V)
-      → MovesOn (m old.program) (ComesTo (event.Step plain.thread plain.answer) to) old new
+  pub makes_one : (plain : PlainMove) (t : ℕ) (to : Outcome) (old new : Parts P V) → t ≡ plain.thread
+      → MovesOn (m old.program) (ComesTo (event.Step t plain.answer) to) old new
       → MovesOn (m old.program) (MakesOne plain) old new
-  makes_one plain to old new a =
+  makes_one plain t to old new is a =
       moves_as (m old.program) (ComesTo (event.Step plain.thread plain.answer) to) (MakesOne plain) old new
-      (λ s w next x y r fed epoch past more h legal. made s w next plain to r.0 fed epoch past more h legal) a
+      (λ s w next x y r fed epoch past more h legal. made s w next plain to r.0 fed epoch past more h legal)
+      (subst (λ (u : ℕ). MovesOn (m old.program) (ComesTo (event.Step u plain.answer) to) old new) is a)
 
   pub makes_none : (y : Parts P V) (moves : List PlainMove) → moves ≡ [] → StandsForSome (m y.program) y
       → MovedTo m (MakesAll moves) y y
@@ -195,22 +209,52 @@ module _ {P V : Type 0} (m : P → Meaning V) where
       (λ s w here next x y r q fed epoch past h. stored_now s w here next to reply.outcome q.0.0 r.0 q.0.1.0 fed epoch
       past h) a b
 
+  -- what was built before the outputs are released
+  abbrev pub BuildsTo : Image → Setting V → World V → World V → Type 0
+  BuildsTo image s w next =
+      (played : PlaysWhole s image) → IsBuilt image.fed 1 [] [] [] w
+      → IsBuilt image.fed image.epoch played.steps played.steps [] next
+
+  abbrev pub Made : Image → Setting V → World V → World V → Type 0
+  Made image s w next =
+      (played : PlaysWhole s image) → IsBuilt image.fed 1 [] [] [] w
+      → IsBuilt image.fed image.epoch played.steps [] [] next
+
+  pub builds_to : (image : Image) (many : ℕ) (old a b c : Parts P V) → many + 1 ≡ image.epoch
+      → MovesOn (m old.program) (Turns many) old a → MovesOn (m a.program) (MakesAll image.past) a b
+      → MovesOn (m b.program) StoresAll b c → MovesOn (m old.program) (BuildsTo image) old c
+  builds_to image many old a b c count p q r =
+      chain (Made image) StoresAll (BuildsTo image) old b c
+      (λ s w here next x y k l played h. l image.fed image.epoch played.steps (k played h))
+      (chain (Turns many) (MakesAll image.past) (Made image) old a b
+      (λ s w here next x y k l played h. l image.fed image.epoch played.steps
+      (subst (λ (n : ℕ). IsBuilt image.fed n [] [] [] here) (omega (arith, count)) (k image.fed 1 h)) played.plays) p q) r
+
+  is_fault : (s : Setting V) (image : Image) (played : PlaysWhole s image) (e : ResumeError)
+      → IsWrongBy image.released played.steps e → IsFault s image e
+  is_fault s image played (Count place) wrong = absurd wrong
+  is_fault s image played (Move fault) wrong = absurd wrong
+  is_fault s image played (Released place) wrong =
+      (played.counts, played.rows, played.steps, played.plays, wrong)
+  is_fault s image played NoMemory wrong = tt
+
   -- Outputs
 
-  pub releases_one : (t n : ℕ) (reply : Reply) (before out : List Output) (good : Bool) (old new : Parts P V)
-      → (good ≡ true → reply.outcome ≡ outcome.Released) → (reply.outcome ≡ outcome.Released → good ≡ true)
-      → MovesOn (m old.program) (Releasing before out (Replies (event.Out t n) reply)) old new
+  pub releases_one : (u t n : ℕ) (reply : Reply) (before out : List Output) (good : Bool) (old new : Parts P V)
+      → u ≡ t → (good ≡ true → reply.outcome ≡ outcome.Released) → (reply.outcome ≡ outcome.Released → good ≡ true)
+      → MovesOn (m old.program) (Releasing before out (Replies (event.Out u n) reply)) old new
       → MovesOn (m old.program) (ReleasesOne t n good) old new
-  releases_one t n reply before out good old new yes back a =
+  releases_one u t n reply before out good old new same whole back a =
       moves_as (m old.program) (Releasing before out (Replies (event.Out t n) reply)) (ReleasesOne t n good) old new
-      (λ s w next x y r fed epoch past names h. by s w next x r fed epoch past names h) a
+      (λ s w next x y r fed epoch past names h. by s w next x r fed epoch past names h)
+      (subst (λ (v : ℕ). MovesOn (m old.program) (Releasing before out (Replies (event.Out v n) reply)) old new) same a)
     where
       by : (s : Setting V) (w next : World V) → StandsFor (m old.program) s w old
           → Releasing before out (Replies (event.Out t n) reply) s w next → (fed epoch : ℕ) (past : List (Step V))
           (names : List (ℕ × ℕ)) → IsBuilt fed epoch past past names w
           → IsReleased (t, n) good fed epoch past names next
       by s w next x r fed epoch past names h =
-          released_now s w next x.sound fed epoch past names h t n reply.outcome r.0.0 good yes back r.0.1.0
+          released_now s w next x.sound fed epoch past names h t n reply.outcome r.0.0 good whole back r.0.1.0
 
   -- the first outputs were released, each once, and were of the past
   pub releases_none : (y : Parts P V) (outputs : List (ℕ × ℕ)) → outputs ≡ [] → StandsForSome (m y.program) y
@@ -278,3 +322,28 @@ module _ {P V : Type 0} (m : P → Meaning V) where
         good = good.1;
         wrong = bad;
       }
+
+  -- All of it
+
+  pub builds : (image : Image) (many : ℕ) (old a b c new : Parts P V) → many + 1 ≡ image.epoch
+      → MovesOn (m old.program) (Turns many) old a → MovesOn (m a.program) (MakesAll image.past) a b
+      → MovesOn (m b.program) StoresAll b c → MovesOn (m c.program) (ReleasesAll image.released) c new
+      → MovesOn (m old.program) (Builds image) old new
+  builds image many old a b c new count p q r z =
+      chain (BuildsTo image) (ReleasesAll image.released) (Builds image) old c new
+      (λ s w here next x y k l played h. l image.fed image.epoch played.steps (k played h)) (builds_to image many old a b c count p q r)
+      z
+
+  -- what an error says while it is built
+  pub builds_wrong : (image : Image) (many : ℕ) (old a b c : Parts P V) → many + 1 ≡ image.epoch
+      → MovesOn (m old.program) (Turns many) old a → MovesOn (m a.program) (MakesAll image.past) a b
+      → MovesOn (m b.program) StoresAll b c → (e : ResumeError)
+      → ((s : Setting V) (w : World V) → StandsFor (m c.program) s w c → IsWrong image.released w e) → (s : Setting V)
+      (w : World V) → StandsFor (m old.program) s w old → PlaysWhole s image → IsBuilt image.fed 1 [] [] [] w
+      → IsFault s image e
+  builds_wrong image many old a b c count p q r e wrong s w st played h =
+      let all = builds_to image many old a b c count p q r in
+      let k = all.1 s w st in
+      let mean = ap m all.0 in
+      is_fault s image played e (wrong s k.0 (subst (λ (z : Meaning V). StandsFor z s k.0 c) (sym mean) k.2) image.fed
+      image.epoch played.steps (k.1 played h))

@@ -39,6 +39,10 @@ use Rattle.handover_world.specs.Faults.{IsOutputIn}
 use Rattle.system_images.specs.Building.{IsBuilt, IsReleased}
 use Rattle.system_images.proofs.ReadyLemmas.{none_sent}
 
+-- what an answer is, is one thing
+pub ok_same : {A E : Type 0} (a b : A) (r : Result A E) → r ≡ Ok a → r ≡ Ok b → a ≡ b
+ok_same a b r p q = cc
+
 -- A crash and a recovery
 
 none_of : {V : Type 0} (w : World V) (part : List Entry) → w.held ≡ [] → IsPartOf w.held part → part ≡ []
@@ -103,16 +107,8 @@ legal_move {V} m inputs threads steps more plain e = go (cases_lt plain.thread t
 
 -- with nothing to follow nothing is waited for
 none_awaited : (log : List Entry) (t : ℕ) (next : Move) (e : Entry) → Awaits [] log t next e → ⊥
-none_awaited log t (move.Access v) e a = go a.which
-  where
-    go : _ → ⊥
-    go (inl k) = k.1.0
-    go (inr k) = k.1.0
-none_awaited log t (move.Read v) e a = go a.which
-  where
-    go : _ → ⊥
-    go (inl k) = k.1.0
-    go (inr k) = k.1.0
+none_awaited log t (move.Access v) e a = elim a.which as (λ _. ⊥) [ inl k ↦ k.1.0 | inr k ↦ k.1.0 ]
+none_awaited log t (move.Read v) e a = elim a.which as (λ _. ⊥) [ inl k ↦ k.1.0 | inr k ↦ k.1.0 ]
 none_awaited log t move.Clock e a = a
 none_awaited log t move.Draw e a = a
 none_awaited log t move.Emit e a = a
@@ -145,7 +141,7 @@ module _ {V : Type 0} (s : Setting V) (w : World V) (t : ℕ) (none : w.followed
       (subst (λ (l : List Entry). TellsClock l (log_of w.past) t (Some a) w.clock b) none tells)
   told_move None answer drawn taken h value after effect move.Draw e tells = absurd (cc)
   told_move (Some a) answer drawn taken h value after effect move.Draw e (b, is, tells) =
-      told_draw (log_of w.past) t (Some a) answer _ w.drawn b drawn (λ n. cc) is
+      told_draw (log_of w.past) t (Some a) answer (word_of s.seed) w.drawn b drawn (λ n. cc) is
       (subst (λ (l : List Entry). TellsDraw l (log_of w.past) t (Some a) (word_of s.seed) w.drawn b drawn) none tells)
   told_move None answer drawn taken h value after effect move.Emit e tells = tells.0
   told_move (Some a) answer drawn taken h value after effect move.Emit e tells = absurd (cc)
@@ -169,8 +165,8 @@ module _ {V : Type 0} (s : Setting V) (w : World V) (t : ℕ) (none : w.followed
 no_move : {V : Type 0} (m : Meaning V) (value : ℕ → V) (taken : ℕ) (packets : List Packet) (given : Option ℕ)
     (hand : Option Hand) (after : Thread) (effect : Effect V) → hand ≡ None → slice_get packets taken ≡ None
     → held_move m packets value taken given hand ≡ Moves after effect → ⊥
-no_move m value taken packets given (Some h) after effect none no e = absurd (cc)
-no_move {V} m value taken packets given None after effect none no e = go given (slice_get packets taken) no e
+no_move m value taken packets given (Some h) after effect none empty e = absurd (cc)
+no_move {V} m value taken packets given None after effect none empty e = go given (slice_get packets taken) empty e
   where
     go : (given : Option ℕ) (i : Option Packet) → i ≡ None → take_move m taken given i ≡ Moves after effect → ⊥
     go (Some a) i is e = absurd (cc)
@@ -233,14 +229,10 @@ made {V} s w next plain to on fed epoch past more h legal = go on.0
             told_hand s w plain.thread h.followed plain.answer k.answer k.drawn th.taken
             (inputs_fed s w.fed plain.thread) th.hand (value_after s.meaning w.past) by.1 by.2 by.3 k.tells
 
-        both : Ok (k.step ∷ w.past) ≡ Ok more
-        both =
-            sym k.moves
-            ∙ (ap (λ (b : Option ℕ). plain_move s.meaning (inputs_fed s w.fed) s.threads w.past
-            (record { thread = plain.thread; answer = b })) same ∙ here)
-
         one : k.step ∷ w.past ≡ more
-        one = cc
+        one = ok_same (k.step ∷ w.past) more (plain_move s.meaning (inputs_fed s w.fed) s.threads w.past plain)
+            (subst (λ (b : Option ℕ). plain_move s.meaning (inputs_fed s w.fed) s.threads w.past
+            (record { thread = plain.thread; answer = b }) ≡ Ok (k.step ∷ w.past)) same k.moves) here
 
 -- A snapshot that is stored
 
@@ -336,10 +328,8 @@ module _ {V : Type 0} (s : Setting V) (w next : World V) (sound : Sound s w) (fe
   -- what arrived was released
   was_released : HasArrived w t n → Contains names (t, n)
   was_released (o, of, inl i) = subst (λ (l : List (ℕ × ℕ)). Contains l (t, n)) h.released
-      (subst (λ (p : ℕ × ℕ). Contains (sent_names w.released) p) (pair o of) (name_there o w.released i))
-    where
-      pair : (o : Sent) → HasNumber t n o → (o.emission.thread, o.emission.number) ≡ (t, n)
-      pair o of = ap (λ (u : ℕ). (u, o.emission.number)) of.0 ∙ ap (λ (k : ℕ). (t, k)) of.1
+      (subst (λ (k : ℕ). Contains (sent_names w.released) (t, k)) of.1
+      (subst (λ (u : ℕ). Contains (sent_names w.released) (u, o.emission.number)) of.0 (name_there o w.released i)))
   was_released (o, of, inr i) = absurd (subst (λ (l : List Sent). IsAmong o l) h.waiting i)
 
   has_arrived : Contains names (t, n) → HasArrived w t n
@@ -351,7 +341,7 @@ module _ {V : Type 0} (s : Setting V) (w next : World V) (sound : Sound s w) (fe
   pub released_now : (to : Outcome) (freed : List Sent) (good : Bool) → (good ≡ true → to ≡ outcome.Released)
       → (to ≡ outcome.Released → good ≡ true) → On s w (event.Out t n) to freed next
       → IsReleased (t, n) good fed epoch past names next
-  released_now to freed true yes back on = go on (yes refl)
+  released_now to freed true whole back on = go on (whole refl)
     where
       go : On s w (event.Out t n) to freed next → to ≡ outcome.Released
           → IsReleased (t, n) true fed epoch past names next
@@ -389,7 +379,7 @@ module _ {V : Type 0} (s : Setting V) (w next : World V) (sound : Sound s w) (fe
               subst (λ (p : Sent). SendsAfter past p.emission p.after) same
               (subst (λ (l : List (Step V)). SendsAfter l a.0.emission a.0.after) h.past_is a.1.0)
           sends o (inr (inr i)) = absurd i
-  released_now to freed false yes back on = go on
+  released_now to freed false whole back on = go on
     where
       go : On s w (event.Out t n) to freed next → IsReleased (t, n) false fed epoch past names next
       go (inl a) = inl (λ is.

@@ -5,7 +5,8 @@ use Rattle.std.proofs.Common.{Result, Ok, Err, append_assoc, append-nil}
 use Rattle.std.specs.Prelude.{◌^◌, ◌/◌, ◌%◌, ◌&&◌, min, nat_eq, nat_lt, option_to_list, reverse}
 use Rattle.std.proofs.lemmas.Bool.{cases_lt}
 use Rattle.std.proofs.lemmas.Bool.Decides.{nat_tests}
-use Rattle.std.proofs.lemmas.List.{drop_all, drop_more, take-append-drop, reverse_onto}
+use Rattle.std.proofs.lemmas.Grind.{reverse_onto}
+use Rattle.std.proofs.lemmas.List.{drop_all, drop_more, take-append-drop}
 use Rattle.plain_text.specs.declared.packet.Packet.{Packet}
 use Rattle.plain_text.specs.declared.limit.TheConstants.{MOST_MOVES, MOST_OUTPUT_BYTES}
 use Rattle.input_logger.specs.Inputs.{Fed, inputs_of, input_at}
@@ -24,7 +25,9 @@ use Rattle.plain_player.specs.declared.hand.MoveError.TheVariants as error
 use Rattle.plain_player.specs.Playing.{Follows, Playing, Stands, next_input}
 use Rattle.plain_player.proofs.NextInputs.{next_is}
 use Rattle.plain_player.proofs.PlayedOn.{SoFar, so_far_none, history_of, made_more, found_illegal}
-use Rattle.recovery_world.specs.World.{Setting, inputs_fed}
+use Rattle.recovery_world.specs.World.{Setting, World, inputs_fed}
+use Rattle.system_parts.specs.Parts.{Parts}
+use Rattle.system_parts.specs.SystemStanding.{StandsFor}
 use Rattle.recovery_world.specs.Events.{bytes_sent}
 use Rattle.handover.specs.declared.image.Ended.{Ended as EndedRow}
 use Rattle.handover.specs.declared.image.Image.{Image}
@@ -177,18 +180,18 @@ module _ {V : Type 0} (m : Meaning V) (inputs : ℕ → List Packet) (threads : 
   as_far : (moves made rest other left : List PlainMove) (past steps ends : List (Step V)) → moves ≡ made ++ rest
       → moves ≡ other ++ left → and_moves m inputs threads (Ok past) made ≡ Ok steps
       → and_moves m inputs threads (Ok past) other ≡ Ok ends → IsStuck steps rest → IsStuck ends left → steps ≡ ends
-  as_far moves [] rest [] left past steps ends a b p q no not = cc
-  as_far moves [] rest (y ∷ other) left past steps ends a b p q no not =
+  as_far moves [] rest [] left past steps ends a b p q halts stops = cc
+  as_far moves [] rest (y ∷ other) left past steps ends a b p q halts stops =
       let same : past ≡ steps = cc in
-      let k = no y (other ++ left) (sym a ∙ b) in
+      let k = halts y (other ++ left) (sym a ∙ b) in
       absurd (not_on past ends y other k.0 (subst (λ (l : List (Step V)). plain_move m inputs threads l y ≡ Err k.0)
       (sym same) k.1) q)
-  as_far moves (x ∷ made) rest [] left past steps ends a b p q no not =
+  as_far moves (x ∷ made) rest [] left past steps ends a b p q halts stops =
       let same : past ≡ ends = cc in
-      let k = not x (made ++ rest) (sym b ∙ a) in
+      let k = stops x (made ++ rest) (sym b ∙ a) in
       absurd (not_on past steps x made k.0 (subst (λ (l : List (Step V)). plain_move m inputs threads l x ≡ Err k.0)
       (sym same) k.1) p)
-  as_far moves (x ∷ made) rest (y ∷ other) left past steps ends a b p q no not =
+  as_far moves (x ∷ made) rest (y ∷ other) left past steps ends a b p q halts stops =
       go (plain_move m inputs threads past x) refl
       (λ more. as_far (made ++ rest) made rest other left more steps ends refl tails)
     where
@@ -216,7 +219,7 @@ module _ {V : Type 0} (m : Meaning V) (inputs : ℕ → List Packet) (threads : 
           (subst (λ (o : Result (List (Step V)) PlayCause).
           and_moves m inputs threads (numbered (length past) o) made ≡ Ok steps) k p)
           (subst (λ (o : Result (List (Step V)) PlayCause).
-          and_moves m inputs threads (numbered (length past) o) other ≡ Ok ends) k other_on) no not
+          and_moves m inputs threads (numbered (length past) o) other ≡ Ok ends) k other_on) halts stops
 
   far_stuck : (moves : List PlainMove) (steps : List (Step V)) (rest : List PlainMove) (fault : Option PlayFault)
       → StopsBy m inputs threads moves steps rest fault → IsStuck steps rest
@@ -234,7 +237,7 @@ module _ {V : Type 0} (m : Meaning V) (inputs : ℕ → List Packet) (threads : 
 module _ {V : Type 0} (s : Setting V) (image : Image) (far : Far)
     (is : IsFar s.meaning (inputs_fed s image.fed) s.threads image.past far)
     (counts : CountsMayBe (length s.packets) image) where
-  plays_to : PlaysTo s image is.steps
+  abbrev plays_to : PlaysTo s image is.steps
   plays_to = record {
     made = is.made;
     rest = is.rest;
@@ -301,9 +304,34 @@ module _ {V : Type 0} (s : Setting V) (image : Image) (far : Far)
       not_zero threads before (suc more) [] e = let k : before + 1 ≡ 0 = cc in omega (arith, k)
       not_zero threads before (suc more) (row ∷ rows) e =
           go (nat_eq row.epoch (before / threads + 1) && nat_eq row.thread (before % threads)) refl
+          (λ h. not_zero threads (before + 1) more rows h)
         where
-          go : (b : Bool) → (nat_eq row.epoch (before / threads + 1) && nat_eq row.thread (before % threads)) ≡ b → ⊥
-          go true is = not_zero threads (before + 1) more rows (rw is at e)
-          go false is = let k : Some (before + 1) ≡ Some 0 = rw is at e in let n : before + 1 ≡ 0 = cc in
+          go : (b : Bool) → (nat_eq row.epoch (before / threads + 1) && nat_eq row.thread (before % threads)) ≡ b
+              → (wrong_row threads (before + 1) more rows ≡ Some 0 → ⊥) → ⊥
+          go true is later = later (rw is at e)
+          go false is later = let k : Some (before + 1) ≡ Some 0 = rw is at e in let n : before + 1 ≡ 0 = cc in
               omega (arith, n)
   first_row few (suc place) at = (may_be few, at)
+
+-- From the parts of a system as its code has them
+
+module _ {P V : Type 0} (mean : P → Meaning V) (view now : Parts P V) (is : view ≡ now) (s : Setting V) (w : World V)
+    (st : StandsFor (mean now.program) s w now) (image : Image) (fed : w.fed ≡ image.fed) where
+  -- the moves go so far on what was fed
+  pub far_on_fed : (far : Far) → IsFar (mean view.program) (inputs_of view.inputs) view.inputs.threads image.past far
+      → IsFar s.meaning (inputs_fed s image.fed) s.threads image.past far
+  far_on_fed far f =
+      let a = subst (λ (q : Parts P V). IsFar (mean q.program) (inputs_of q.inputs) q.inputs.threads image.past far) is
+      f in
+      let b = subst (λ (i : Fed). IsFar (mean now.program) (inputs_of i) i.threads image.past far) st.inputs.inputs a in
+      let c = subst (λ (n : ℕ). IsFar (mean now.program)
+      (inputs_of (record { threads = s.threads; packets = take n s.packets })) s.threads image.past far) fed b in
+      subst (λ (m : Meaning V). IsFar m (inputs_fed s image.fed) s.threads image.past far) (sym st.inputs.meaning) c
+
+  -- and a wrong row is one of them
+  pub row_of_setting : (threads : ℕ) (r : Option ℕ) → threads ≡ view.inputs.threads
+      → r ≡ wrong_row threads 0 ((image.epoch - 1) * threads) image.ended → wrong_row_of s.threads image ≡ r
+  row_of_setting threads r same row =
+      let all : threads ≡ s.threads =
+      same ∙ (ap (λ (q : Parts P V). q.inputs.threads) is ∙ ap (λ (i : Fed). i.threads) st.inputs.inputs) in
+      sym (row ∙ ap (λ (n : ℕ). wrong_row n 0 ((image.epoch - 1) * n) image.ended) all)

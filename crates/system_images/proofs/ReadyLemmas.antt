@@ -5,7 +5,7 @@ use Rattle.std.proofs.lemmas.List.{drop_all}
 use Rattle.master_core.specs.declared.parts.Counts.{Counts}
 use Rattle.master_core.specs.declared.parts.ThreadPart.{ThreadPart}
 use Rattle.output_releases.proofs.Answering.{counted}
-use Rattle.std.specs.Prelude.{◌^◌, ◌-◌, HoldsAt, min, IsSome, cond, drop, nat_eq, nat_lt}
+use Rattle.std.specs.Prelude.{◌^◌, ◌-◌, HoldsAt, min, is_some, IsSome, cond, drop, nat_eq, nat_lt}
 use Rattle.std.proofs.lemmas.Bool.{cases_lt}
 use Rattle.std.proofs.lemmas.Bool.Decides.{nat_tests}
 use Rattle.entry_order.specs.Log.{Entry, entries, IsLog, IsIn, Keeps}
@@ -121,6 +121,10 @@ sum_bound (suc n) f low =
     let a : sum_below n f ≤ n * 2 ^ 56 = sum_bound n f low in
     let b = low n in omega (arith, a, b)
 
+some_there : {X : Type 0} (o : Option X) → IsSome o → (x : X) × (o ≡ Some x)
+some_there None some = absurd (cc)
+some_there (Some x) some = (x, refl)
+
 -- What is left
 
 -- the number of the entry found last, or that of the last entry made
@@ -135,10 +139,10 @@ LeftTo {P} {V} m y t left =
 
 module _ {P V : Type 0} (m : Meaning V) (fits : ℕ → V → Type 0) (lawful : IsLawful m fits) (s : Setting V) (w : World V)
     (y : Parts P V) (st : StandsFor m s w y) (few : length y.inputs.packets < 2 ^ 50) where
-  more : List Entry
+  abbrev pub more : List Entry
   more = st.sound.firm.more
 
-  past : List Entry
+  abbrev pub past : List Entry
   past = log_of w.past
 
   law : IsLawful s.meaning fits
@@ -212,23 +216,29 @@ module _ {P V : Type 0} (m : Meaning V) (fits : ℕ → V → Type 0) (lawful : 
   found_low : (t number made : ℕ) → made ≡ entries t past → made ≤ number → FoundTo y t made number
       → number ≤ entries t (more ++ past)
   found_low t number made counts up (inl same) = let sum = both t in omega (arith, same, counts, sum)
-  found_low t number made counts up (inr (x, is)) = go (cases_lt made number)
+  found_low t number made counts up (inr some) = go (cases_lt made number)
     where
-      of : (x.thread ≡ t) × (x.number ≡ number)
-      of = let k = st.guide.holds.of_log t number x is in (k.0, k.1)
+      there : (x : StampedEntry) × (entry_at (lane y.guide t) number ≡ Some x)
+      there = some_there (entry_at (lane y.guide t) number) some
+
+      is : entry_at (lane y.guide t) number ≡ Some there.0
+      is = there.1
+
+      of : (there.0.thread ≡ t) × (there.0.number ≡ number)
+      of = let k = st.guide.holds.of_log t number there.0 is in (k.0, k.1)
 
       go : (made < number) ⊎ (number ≤ made) → number ≤ entries t (more ++ past)
       go (inr k) = let sum = both t in omega (arith, k, counts, sum)
       go (inl k) =
-          let i = st.guide.only (plain_entry x) (at_held y.guide (plain_entry x) t number x is refl) in
-          let same : entries x.thread past ≡ entries t past = ap (λ (u : ℕ). entries u past) of.0 in
+          let i = st.guide.only (plain_entry there.0) (at_held y.guide (plain_entry there.0) t number there.0 is refl) in
+          let same : entries there.0.thread past ≡ entries t past = ap (λ (u : ℕ). entries u past) of.0 in
           let num = of.1 in
-          let come = (st.sound.firm.to_come (plain_entry x)).1 (i, λ j.
-          let n = number_within past (plain_entry x) (tail_log more past st.sound.firm.log) j in
+          let come = (st.sound.firm.to_come (plain_entry there.0)).1 (i, λ j.
+          let n = number_within past (plain_entry there.0) (tail_log more past st.sound.firm.log) j in
           omega (arith, n, same, num, k, counts)) in
-          let all = number_within (more ++ past) (plain_entry x) st.sound.firm.log
-          (in_left (plain_entry x) more past come) in
-          let line : entries x.thread (more ++ past) ≡ entries t (more ++ past) =
+          let all = number_within (more ++ past) (plain_entry there.0) st.sound.firm.log
+          (in_left (plain_entry there.0) more past come) in
+          let line : entries there.0.thread (more ++ past) ≡ entries t (more ++ past) =
           ap (λ (u : ℕ). entries u (more ++ past)) of.0 in
           omega (arith, all, line, num)
 
@@ -246,9 +256,8 @@ module _ {P V : Type 0} (m : Meaning V) (fits : ℕ → V → Type 0) (lawful : 
           let at = g.3 in
           let come = to_come_of g.0 (later g.0 g.1 (omega (arith, same, at, up, counts))) in
           let f = (st.guide.follows g.0 come.1).0 come.0 in
-          absurd (none (f.0,
-          subst (λ (n : ℕ). entry_at (lane y.guide t) n ≡ Some f.0) g.3
-          (subst (λ (u : ℕ). entry_at (lane y.guide u) g.0.number ≡ Some f.0) g.2 f.1)))
+          absurd (none (ap is_some (subst (λ (n : ℕ). entry_at (lane y.guide t) n ≡ Some f.0) g.3
+          (subst (λ (u : ℕ). entry_at (lane y.guide u) g.0.number ≡ Some f.0) g.2 f.1))))
 
   -- the guide never has so many
   pub never_full : (t number made : ℕ) → made ≡ entries t past → made ≤ number → FoundTo y t made number
@@ -300,7 +309,7 @@ module _ {P V : Type 0} (mean : P → Meaning V) (fits : P → ℕ → V → Typ
       let gone : entry_at (lane now.guide t) (number + 1) ≡ None =
       subst (λ (q : Parts P V). entry_at (lane q.guide t) (number + 1) ≡ None) same none in
       let k = counted_left (mean now.program) (fits now.program) law_now s w now st few_now t number r.entries made up
-      found (λ some. let is = some.1 in cc) in
+      found (λ some. cc) in
       omega (arith, k)
 
   pub never_so_many : (s : Setting V) (w : World V) (st : StandsFor (mean now.program) s w now) (t number : ℕ)

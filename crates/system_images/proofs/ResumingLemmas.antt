@@ -21,8 +21,13 @@ use Rattle.plain_machine.specs.History.{Step, act_of, and_moves, log_of, numbere
 use Rattle.plain_machine.specs.History.{after_moved, thread_after, value_after}
 use Rattle.plain_machine.specs.Agree.{SendsAfter, IsEarlier}
 use Rattle.plain_machine.proofs.PlayedLists.{play_history, stuck}
-use Rattle.recovery_world.specs.World.{Setting, Sent, World, Ended as EndedEpoch, inputs_fed}
-use Rattle.recovery_world.specs.Events.{HasNumber, IsAmong, entries_of_line}
+use Rattle.recovery_world.specs.World.{Setting, Sent, World, Ended as EndedEpoch, inputs_fed, opening}
+use Rattle.recovery_world.specs.declared.event.Event.TheVariants as event
+use Rattle.recovery_world.specs.declared.event.Outcome.{Outcome}
+use Rattle.system_parts.specs.Performing.{ComesTo, MovesOn}
+use Rattle.system_parts.proofs.EventChains.{moves_as}
+use Rattle.handover_world.specs.declared.fault.ResumeError.{ResumeError}
+use Rattle.recovery_world.specs.Events.{HasNumber, IsAmong, after_feed, fed_after}
 use Rattle.recovery_world.specs.Files.{answer_of, moves_made, sent_names}
 use Rattle.recovery_world.specs.Limits.{IsWithin}
 use Rattle.recovery_laws.specs.Sound.{Sound}
@@ -35,11 +40,11 @@ use Rattle.system_parts.proofs.LineLemmas.{holds_moves}
 use Rattle.master_core.specs.MasterStanding.{Stands}
 use Rattle.handover.specs.declared.image.Ended.{Ended}
 use Rattle.handover.specs.declared.image.Image.{Image}
-use Rattle.handover_world.specs.Faults.{AreReleased, HasNoFault, MayBe}
+use Rattle.handover_world.specs.Faults.{AreReleased, IsFault}
 use Rattle.handover_world.specs.Images.{IsAtRest, IsImageOf, ended_rows}
-use Rattle.system_images.specs.Judging.{PlaysWhole}
-use Rattle.system_images.specs.Building.{IsBuilt, Resumes}
-use Rattle.system_images.proofs.BuiltWorlds.{legal_move, name_there, named_there}
+use Rattle.system_images.specs.Judging.{CountsMayBe, PlaysWhole}
+use Rattle.system_images.specs.Building.{Builds, IsBuilt, Prepares, Resumes}
+use Rattle.system_images.proofs.BuiltWorlds.{legal_move, name_there, named_there, ok_same}
 use Rattle.system_images.proofs.RowsLemmas.{epochs_there}
 
 -- The moves of a history are those that it was played by
@@ -63,11 +68,8 @@ one_move {V} m inputs threads past more plain e =
         let low : plain.thread < threads = by.0 in
         let t : nat_lt plain.thread threads ≡ true = grind (arith, nat_tests) in rw t (rw by.3 refl)
 
-    both : Ok (step ∷ past) ≡ Ok more
-    both = sym made_so ∙ e
-
     same : step ∷ past ≡ more
-    same = cc
+    same = ok_same (step ∷ past) more (plain_move m inputs threads past plain) made_so e
 
     told : record { thread = plain.thread; answer = answer_of (act_of plain.thread past by.1.taken by.2) } ≡ plain
     told =
@@ -164,7 +166,8 @@ module _ {P V : Type 0} (m : Meaning V) (s : Setting V) (image : Image) (here : 
         (moves_play s.meaning (inputs_fed s w.fed) s.threads w.past sound.firm.legal))
 
     steps : played.steps ≡ w.past
-    steps = let both : Ok played.steps ≡ Ok w.past = sym played.plays ∙ replays in cc
+    steps = ok_same played.steps w.past (play s.meaning (inputs_fed s image.fed) s.threads image.past) played.plays
+        replays
 
     past : here.past ≡ w.past
     past = h.past_is ∙ steps
@@ -333,3 +336,100 @@ module _ {P V : Type 0} (m : Meaning V) (s : Setting V) (image : Image) (here : 
     stands = λ w sound rest i. goes_on w sound rest i;
     some = (there, there_sound, there_rests, there_is);
   }
+
+-- From the parts of a system as its code has them
+pub counts_set : {P V : Type 0} (m : Meaning V) (view now : Parts P V) → view ≡ now → (s : Setting V) (w : World V)
+    → StandsFor m s w now → (image : Image) (played : PlaysWhole s image)
+    → IsBuilt image.fed image.epoch played.steps played.steps image.released w → (seed : ℕ) → s.seed ≡ seed
+    → (threads : ℕ) → threads ≡ view.inputs.threads → (ended : List (List Counts)) → AreEnded threads image ended
+    → AreReleased played.steps image.released
+    → Resumes m s image (with_counts ended (drawn_after seed image.draws) image view)
+counts_set {P} {V} m view now is s w st image played h seed same threads count ended counted released =
+    let here : StandsFor m s w view = subst (λ (q : Parts P V). StandsFor m s w q) (sym is) st in
+    let threads_are : view.inputs.threads ≡ s.threads = ap (λ i. i.threads) here.inputs.inputs in
+    resumes m s image w view here played h seed same ended
+    (subst (λ (n : ℕ). AreEnded n image ended) (count ∙ threads_are) counted) released
+
+-- The steps of a resumption
+
+module _ {P V : Type 0} (m : P → Meaning V) (image : Image) where
+  fed_is : (s : Setting V) → image.fed ≤ length s.packets → fed_after s (opening V) image.fed ≡ image.fed
+  fed_is s low = omega (arith, low)
+
+  built_by : (s : Setting V) (next : World V) → image.fed ≤ length s.packets
+      → next ≡ after_feed s (opening V) image.fed → IsBuilt image.fed 1 [] [] [] next
+  built_by s next low is = record {
+    fed_is = ap (λ (z : World V). z.fed) is ∙ fed_is s low;
+    epoch_is = ap (λ (z : World V). z.epoch) is;
+    up = ap (λ (z : World V). z.up) is;
+    past_is = ap (λ (z : World V). z.past) is;
+    stored_is = ap (λ (z : World V). z.stored) is;
+    copy = ap (λ (z : World V). z.copy) is;
+    held = ap (λ (z : World V). z.held) is;
+    followed = ap (λ (z : World V). z.followed) is;
+    waiting = ap (λ (z : World V). z.waiting) is;
+    released = ap (λ (z : World V). sent_names z.released) is;
+    sent = λ o i. absurd (subst (λ (l : List Sent). IsAmong o l) (ap (λ (z : World V). z.released) is) i);
+  }
+
+  -- the packets of the setting are those that are left at the opening
+  counts_of_setting : (s : Setting V) (y : Parts P V) → StandsFor (m y.program) s (opening V) y
+      → CountsMayBe (length y.left) image → CountsMayBe (length s.packets) image
+  counts_of_setting s y st may = subst (λ (l : List Packet). CountsMayBe (length l) image) st.inputs.left may
+
+  pub prepares : (to : Outcome) (old new : Parts P V) → CountsMayBe (length old.left) image
+      → MovesOn (m old.program) (ComesTo (event.Feed image.fed) to) old new
+      → ((s : Setting V) (w : World V) → StandsFor (m new.program) s w new → w.fed ≡ image.fed
+      → CountsMayBe (length s.packets) image → PlaysWhole s image)
+      → MovesOn (m old.program) (Prepares image) old new
+  prepares to old new may a good =
+      moves_as (m old.program) (ComesTo (event.Feed image.fed) to) (Prepares image) old new
+      (λ s w next x y r is. on s w next x y r is) a
+    where
+      on : (s : Setting V) (w next : World V) → StandsFor (m old.program) s w old
+          → StandsFor (m old.program) s next new → ComesTo (event.Feed image.fed) to s w next → w ≡ opening V
+          → PlaysWhole s image × IsBuilt image.fed 1 [] [] [] next
+      on s w next x y r is =
+          let here = subst (λ (z : World V). StandsFor (m old.program) s z old) is x in
+          let counts = counts_of_setting s old here may in
+          let fed : next ≡ after_feed s (opening V) image.fed =
+          r.0.2 ∙ ap (λ (z : World V). after_feed s z image.fed) is in
+          let built = built_by s next counts.fed fed in
+          let now = subst (λ (z : Meaning V). StandsFor z s next new) (sym (ap m a.0)) y in
+          (good s next now built.fed_is counts, built)
+
+  pub prepares_wrong : (to : Outcome) (old new : Parts P V) → CountsMayBe (length old.left) image
+      → MovesOn (m old.program) (ComesTo (event.Feed image.fed) to) old new → (e : ResumeError)
+      → ((s : Setting V) (w : World V) → StandsFor (m new.program) s w new → w.fed ≡ image.fed
+      → CountsMayBe (length s.packets) image → IsFault s image e)
+      → (s : Setting V) → StandsFor (m old.program) s (opening V) old → IsFault s image e
+  prepares_wrong to old new may a e wrong s st =
+      let counts = counts_of_setting s old st may in
+      let k = a.1 s (opening V) st in
+      let built = built_by s k.0 counts.fed k.1.0.2 in
+      wrong s k.0 (subst (λ (z : Meaning V). StandsFor z s k.0 new) (sym (ap m a.0)) k.2) built.fed_is counts
+
+  pub brings : (seed : ℕ) (old a b new : Parts P V) → MovesOn (m old.program) (Prepares image) old a
+      → MovesOn (m a.program) (Builds image) a b
+      → ((s : Setting V) (w : World V) → StandsFor (m b.program) s w b → s.seed ≡ seed → (played : PlaysWhole s image)
+      → IsBuilt image.fed image.epoch played.steps played.steps image.released w
+      → AreReleased played.steps image.released → Resumes (m b.program) s image new)
+      → (s : Setting V) → StandsFor (m old.program) s (opening V) old → s.seed ≡ seed
+      → Resumes (m old.program) s image new
+  brings seed old a b new p q sets s st same =
+      let k = p.1 s (opening V) st in
+      let ready = k.1 refl in
+      let l = q.1 s k.0 (subst (λ (z : Meaning V). StandsFor z s k.0 a) (sym (ap m p.0)) k.2) in
+      let built = l.1 ready.0 ready.1 in
+      let now = subst (λ (z : Meaning V). StandsFor z s l.0 b) (sym (ap m q.0)) l.2 in
+      subst (λ (z : Meaning V). Resumes z s image new) (ap m (q.0 ∙ p.0))
+      (sets s l.0 now same ready.0 built.0 built.1)
+
+  pub brings_wrong : (old a : Parts P V) → MovesOn (m old.program) (Prepares image) old a → (e : ResumeError)
+      → ((s : Setting V) (w : World V) → StandsFor (m a.program) s w a → PlaysWhole s image
+      → IsBuilt image.fed 1 [] [] [] w → IsFault s image e)
+      → (s : Setting V) → StandsFor (m old.program) s (opening V) old → IsFault s image e
+  brings_wrong old a p e wrong s st =
+      let k = p.1 s (opening V) st in
+      let ready = k.1 refl in
+      wrong s k.0 (subst (λ (z : Meaning V). StandsFor z s k.0 a) (sym (ap m p.0)) k.2) ready.0 ready.1

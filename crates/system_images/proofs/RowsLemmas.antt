@@ -3,7 +3,7 @@ use Rattle.std.proofs.Common.{◌≡◌, ℕ, zero, suc, ◌+◌, ◌-◌, ◌*�
 use Rattle.std.proofs.Common.{ap}
 use Rattle.std.proofs.Common.{◌∙◌, subst, inl, inr, arith, Option, Some, None, drop}
 use Rattle.std.proofs.Common.{Bool, true, false, append_assoc, append-nil, length-append, length-drop}
-use Rattle.std.specs.Prelude.{slice_get, slice_index_or, cond, nat_eq, ◌/◌, ◌%◌, ◌&&◌, if◌then◌else◌}
+use Rattle.std.specs.Prelude.{Bor, option_copied, slice_get, slice_index_or, cond, nat_eq, ◌/◌, ◌%◌, ◌&&◌, if◌then◌else◌}
 use Rattle.std.proofs.lemmas.Bool.{cases_lt}
 use Rattle.std.proofs.lemmas.Bool.Decides.{nat_tests}
 use Rattle.std.proofs.lemmas.List.{drop_all, drop_more}
@@ -43,6 +43,17 @@ pub record CountedTo (threads many : ℕ) (rows : List Ended) (i : ℕ) (ended :
       → AreCounts threads x (slice_index_or ended (e - 1) [])
 
 -- Places of a list
+
+-- what is found in a list that is borrowed
+pub found_item : {X : Type 0} (xs ys : List X) (i : ℕ) (r : Option (Bor X)) (x : Bor X) → ys ≡ xs
+    → option_copied r ≡ slice_get ys i → r ≡ Some x → slice_get xs i ≡ Some x.now
+found_item {X} xs ys i r x same found is =
+    ap (λ (l : List X). slice_get l i) (sym same) ∙ (sym found ∙ ap (λ (o : Option (Bor X)). option_copied o) is)
+
+pub found_none : {X : Type 0} (xs ys : List X) (i : ℕ) (r : Option (Bor X)) → ys ≡ xs
+    → option_copied r ≡ slice_get ys i → ((x : Bor X) → r ≡ Some x → ⊥) → slice_get xs i ≡ None
+found_none {X} xs ys i None same found none = ap (λ (l : List X). slice_get l i) (sym same) ∙ sym found
+found_none xs ys i (Some x) same found none = absurd (none x refl)
 
 get_in : {X : Type 0} (xs : List X) (i : ℕ) (x : X) → slice_get xs i ≡ Some x → i < length xs
 get_in [] i x e = absurd (cc)
@@ -314,7 +325,7 @@ rows_long epoch x t zero = refl
 rows_long epoch x t (suc many) = let k = rows_long epoch x (t + 1) many in omega (arith, k)
 
 ended_long : (threads : ℕ) (epochs : List EndedEpoch) → length (ended_rows threads epochs) ≡ length epochs * threads
-ended_long threads [] = refl
+ended_long threads [] = omega arith
 ended_long threads (x ∷ epochs) =
     let a = ended_long threads epochs in
     let b = rows_long (length epochs + 1) x 0 threads in
@@ -341,17 +352,14 @@ rows_get epoch x k (suc many) (suc t) less =
 rows_there : (threads : ℕ) (epochs : List EndedEpoch) (e : ℕ) (x : EndedEpoch) → 1 ≤ e → e ≤ length epochs
     → slice_get epochs (length epochs - e) ≡ Some x → HasRows threads ((e - 1) * threads) (ended_rows threads epochs) x
 rows_there threads [] e x low high is = absurd (omega (arith, low, high))
-rows_there threads (y ∷ epochs) e x low high is = go (cases_lt (length epochs) e)
+rows_there threads (y ∷ epochs) e x low high is =
+    go (cases_lt (length epochs) e) (λ less at. rows_there threads epochs e x low less at)
   where
-    older : List Ended
-    older = ended_rows threads epochs
-
-    newest : List Ended
-    newest = rows_of (length epochs + 1) y 0 threads
-
     go : (length epochs < e) ⊎ (e ≤ length epochs)
+        → (e ≤ length epochs → slice_get epochs (length epochs - e) ≡ Some x
+        → HasRows threads ((e - 1) * threads) (ended_rows threads epochs) x)
         → HasRows threads ((e - 1) * threads) (ended_rows threads epochs ++ rows_of (length epochs + 1) y 0 threads) x
-    go (inl last) = record {
+    go (inl last) older = record {
       each = λ t less. (
         record { epoch = length epochs + 1; thread = 0 + t; entries = y.entries (0 + t); outputs = y.outputs (0 + t) },
         ap (λ n. slice_get (ended_rows threads epochs ++ rows_of (length epochs + 1) y 0 threads) n) (at t)
@@ -374,7 +382,7 @@ rows_there threads (y ∷ epochs) e x low high is = go (cases_lt (length epochs)
             let n : e - 1 ≡ length epochs = omega (arith, last, high) in
             let a : (e - 1) * threads ≡ length epochs * threads = ap (λ k. k * threads) n in
             let b = ended_long threads epochs in omega (arith, a, b)
-    go (inr less) = record {
+    go (inr less) older = record {
       each = λ t low_t.
           let r = old.each t low_t in (
             r.0,
@@ -386,7 +394,7 @@ rows_there threads (y ∷ epochs) e x low high is = go (cases_lt (length epochs)
     }
       where
         old : HasRows threads ((e - 1) * threads) (ended_rows threads epochs) x
-        old = rows_there threads epochs e x low less
+        old = older less
             (ap (λ n. slice_get (y ∷ epochs) n)
             (let q : suc (length epochs - e) ≡ length (y ∷ epochs) - e = omega (arith, less) in q) ∙ is)
 
@@ -457,15 +465,18 @@ split_rows threads b (suc a) c [] e =
     let more : wrong_row threads b (suc (a + c)) [] ≡ None =
     ap (λ n. wrong_row threads b n []) (let q : suc (a + c) ≡ suc a + c = omega arith in q) ∙ e in
     absurd (cc)
-split_rows threads b (suc a) c (row ∷ rows) e = go (IsNext threads b row) refl
+split_rows threads b (suc a) c (row ∷ rows) e =
+    go (IsNext threads b row) refl (λ h. split_rows threads (b + 1) a c rows h)
   where
     more : wrong_row threads b (suc (a + c)) (row ∷ rows) ≡ None
     more = ap (λ n. wrong_row threads b n (row ∷ rows)) (let q : suc (a + c) ≡ suc a + c = omega arith in q) ∙ e
 
-    go : (t : Bool) → IsNext threads b row ≡ t → Split threads b (suc a) c (row ∷ rows)
-    go false is = absurd (let bad = bad_row threads b (a + c) row rows is in cc)
-    go true is =
-        let r = split_rows threads (b + 1) a c rows (sym (next_row threads b (a + c) row rows is) ∙ more) in
+    go : (t : Bool) → IsNext threads b row ≡ t
+        → (wrong_row threads (b + 1) (a + c) rows ≡ None → Split threads (b + 1) a c rows)
+        → Split threads b (suc a) c (row ∷ rows)
+    go false is later = absurd (let bad = bad_row threads b (a + c) row rows is in cc)
+    go true is later =
+        let r = later (sym (next_row threads b (a + c) row rows is) ∙ more) in
         record {
           first = row ∷ r.first;
           last = r.last;
@@ -494,12 +505,15 @@ one_epoch : (threads k t many : ℕ) (rows : List Ended) → t + many ≡ thread
 one_epoch threads k t zero [] all e = (record { entries = λ u. 0; outputs = λ u. 0 }, refl)
 one_epoch threads k t zero (row ∷ rows) all e = absurd (cc)
 one_epoch threads k t (suc many) [] all e = absurd (cc)
-one_epoch threads k t (suc many) (row ∷ rows) all e = go (IsNext threads (k * threads + t) row) refl
+one_epoch threads k t (suc many) (row ∷ rows) all e =
+    go (IsNext threads (k * threads + t) row) refl (λ h. one_epoch threads k (t + 1) many rows (omega (arith, all)) h)
   where
     go : (b : Bool) → IsNext threads (k * threads + t) row ≡ b
+        → (wrong_row threads (k * threads + (t + 1)) many rows ≡ None
+        → (x : EndedEpoch) × (rows ≡ rows_of (k + 1) x (t + 1) many))
         → (x : EndedEpoch) × (row ∷ rows ≡ rows_of (k + 1) x t (suc many))
-    go false is = absurd (let bad = bad_row threads (k * threads + t) many row rows is in cc)
-    go true is = (
+    go false is rest = absurd (let bad = bad_row threads (k * threads + t) many row rows is in cc)
+    go true is rest = (
       x,
       ap (λ (r : Ended). r ∷ rows) row_is
           ∙ ap (λ (l : List Ended). (record { epoch = k + 1; thread = t; entries = x.entries t; outputs = x.outputs t })
@@ -507,7 +521,7 @@ one_epoch threads k t (suc many) (row ∷ rows) all e = go (IsNext threads (k * 
     )
       where
         later : (x : EndedEpoch) × (rows ≡ rows_of (k + 1) x (t + 1) many)
-        later = one_epoch threads k (t + 1) many rows (omega (arith, all))
+        later = rest
             (ap (λ n. wrong_row threads n many rows)
             (let q : k * threads + (t + 1) ≡ k * threads + t + 1 = omega arith in q)
             ∙ (sym (next_row threads (k * threads + t) many row rows is) ∙ e))
@@ -563,7 +577,8 @@ one_epoch threads k t (suc many) (row ∷ rows) all e = go (IsNext threads (k * 
 
 pub epochs_there : (threads n : ℕ) (rows : List Ended) → wrong_row threads 0 (n * threads) rows ≡ None
     → (xs : List EndedEpoch) × (rows ≡ ended_rows threads xs) × (length xs ≡ n)
-epochs_there threads zero rows e = ([], none rows (ap (λ n. wrong_row threads 0 n rows) (omega arith) ∙ e), refl)
+epochs_there threads zero rows e = ([], none rows (ap (λ n. wrong_row threads 0 n rows)
+    (let q : 0 ≡ 0 * threads = omega arith in q) ∙ e), refl)
   where
     none : (rows : List Ended) → wrong_row threads 0 0 rows ≡ None → rows ≡ []
     none [] e = refl

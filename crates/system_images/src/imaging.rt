@@ -3,6 +3,7 @@ ghost use Rattle.handover_world.specs.Images.{IsImageOf, ended_rows, rows_of};
 ghost use Rattle.recovery_world.specs.World.{Setting, World, Ended as EndedEpoch};
 ghost use Rattle.system_parts.specs.SystemStanding.{AreCounts, StandsFor};
 
+use crate::lists::item_at;
 use box_program::Program;
 use event_replies::Releases;
 use handover::{Ended, EndedList, Image};
@@ -23,7 +24,7 @@ fn add_rows(
         → rows.new ≡ rows.old ++ rows_of epoch x 0 threads) }
 {
     for thread in 0..threads {
-        if let Some(counts) = counts.as_slice().get(thread as usize) {
+        if let Some(counts) = item_at(counts.as_slice(), thread as usize) {
             rows.push(Ended {
                 epoch,
                 thread,
@@ -44,7 +45,7 @@ fn ended_of<P: Program>(core: &Core<P>) -> Result<EndedList, NoMemory>
     let mut rows = EndedList::new(core.alloc);
     let threads = core.inputs.threads();
     for epoch in 1..core.logger.epoch() {
-        if let Some(counts) = core.ended.get((epoch - 1) as usize) {
+        if let Some(counts) = item_at(core.ended.as_slice(), (epoch - 1) as usize) {
             add_rows(&mut rows, epoch, counts, threads)?;
         }
     }

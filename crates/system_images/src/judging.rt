@@ -1,5 +1,5 @@
 //! The judging of an image: its counts, its rows and its moves.
-ghost use Rattle.std.specs.Prelude.{◌≡◌, ◌↔◌, IfOk, IsTrue, OnOk, Err, length};
+ghost use Rattle.std.specs.Prelude.{◌≡◌, ◌≤◌, ◌↔◌, IfOk, IsTrue, OnOk, Err, length};
 ghost use Rattle.handover_world.specs.Faults.{IsFault};
 ghost use Rattle.handover_world.specs.declared.fault.ResumeError.{ResumeError as ResumeErrorKind};
 ghost use Rattle.input_logger.specs.Inputs.{inputs_of};
@@ -86,6 +86,7 @@ fn play_far<P: Program>(
 
 /// Judges the moves and the rows of an image whose packets are fed and whose other counts may be.
 pub fn judge<P: Program>(core: &Core<P>, image: &Image) -> Result<(), ResumeError>
+    requires epochs { 1 ≤ image.now.epoch }
     ensures good { OnOk result ((s : Setting P.Value) (w : World P.Value)
         → StandsFor (P.meaning core.now.program) s w core.now → w.fed ≡ image.now.fed
         → CountsMayBe (length s.packets) image.now → PlaysWhole s image.now) }

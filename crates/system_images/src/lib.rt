@@ -5,8 +5,8 @@
 mod building;
 mod imaging;
 mod judging;
+mod lists;
 mod ready;
-
 mod resuming;
 mod rows;
 

@@ -7,6 +7,7 @@ ghost use Rattle.recovery_world.specs.World.{Ended as EndedEpoch};
 ghost use Rattle.system_parts.specs.SystemStanding.{AreCounts, HasEnded};
 ghost use Rattle.system_images.specs.Judging.{HasRows};
 
+use crate::lists::item_at;
 use handover::{Ended, EndedList};
 use master_core::Counts;
 use plain_text::{NoMemory, Sequence};
@@ -59,7 +60,7 @@ fn counts_behind(
     let mut counts = Sequence::new(alloc);
     for thread in 0..threads {
         let place = before + u64::from(thread);
-        if let Some(row) = rows.as_slice().get(place as usize) {
+        if let Some(row) = item_at(rows.as_slice(), place as usize) {
             counts.push(Counts {
                 taken: 0,
                 entries: row.entries,

@@ -65,7 +65,7 @@ loop-index-preserved g c =
           c.loop-index.bytes c.loop-index.invariant.far c.step.result
           (λ inputs threads steps stands given. c.step.ensures.follows inputs threads steps stands
           ((c.input-input.ensures ∙ ap (input_at fed _) c.next_input.ensures) ∙ given)) c.in-Ok.sent good _
-          (c.saturating_add.ensures ∙ ap (λ n. min (c.loop-index.bytes + n) (2 ^ 64 - 1)) c.size_of.ensures);
+          (c.saturating_add-bytes.ensures ∙ ap (λ n. min (c.loop-index.bytes + n) (2 ^ 64 - 1)) c.size_of.ensures);
     }
 
 pub returns : goal.returns

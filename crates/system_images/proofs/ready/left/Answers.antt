@@ -5,7 +5,7 @@ use Rattle.system_images.proofs.ready.left.Goals as goal
 pub loop-thread-preserved : goal.loop-thread-preserved
 loop-thread-preserved g c = record {
   sum = left_more (g.P.Program.meaning c.args.core.now.program) c.args.core.now c.loop-thread.thread c.loop-thread.left
-      c.left_of.result _ c.loop-thread.invariant.sum c.left_of.ensures c.saturating_add.ensures;
+      c.left_of.result _ c.loop-thread.invariant.sum c.left_of.ensures c.saturating_add-left.ensures;
   end = c.loop-thread.invariant.end;
 }
 
