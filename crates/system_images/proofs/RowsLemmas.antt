@@ -2,8 +2,8 @@
 use Rattle.std.proofs.Common.{◌≡◌, ℕ, zero, suc, ◌+◌, ◌-◌, ◌*◌, ◌≤◌, ◌<◌, ◌⊎◌, List, [], ◌∷◌, ◌++◌, length, refl, sym}
 use Rattle.std.proofs.Common.{ap}
 use Rattle.std.proofs.Common.{◌∙◌, subst, inl, inr, arith, Option, Some, None, drop}
-use Rattle.std.proofs.Common.{Bool, true, false, append_assoc, append-nil, length-append, length-drop}
-use Rattle.std.specs.Prelude.{Bor, option_copied, slice_get, slice_index_or, cond, nat_eq, ◌/◌, ◌%◌, ◌&&◌, if◌then◌else◌}
+use Rattle.std.proofs.Common.{Bool, Bor, true, false, append_assoc, append-nil, length-append, length-drop}
+use Rattle.std.specs.Prelude.{option_copied, slice_get, slice_index_or, cond, nat_eq, ◌/◌, ◌%◌, ◌&&◌, if◌then◌else◌}
 use Rattle.std.proofs.lemmas.Bool.{cases_lt}
 use Rattle.std.proofs.lemmas.Bool.Decides.{nat_tests}
 use Rattle.std.proofs.lemmas.List.{drop_all, drop_more}

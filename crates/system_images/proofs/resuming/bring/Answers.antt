@@ -1,3 +1,5 @@
+use Rattle.std.proofs.lemmas.Result.{err_from_is_err_and}
+use Rattle.system_parts.proofs.EventChains.{exits_as}
 use Rattle.system_images.specs.Building.{Prepares}
 use Rattle.system_images.proofs.BuildingLemmas.{some_then}
 use Rattle.system_images.proofs.ResumingLemmas.{brings, brings_wrong}
@@ -9,7 +11,12 @@ build-requires-clause-stands g c κs within =
     c.in_ok-prepare.ensures.good c.requires.stands
 
 pub returns-in_err-build-clause-faults : goal.returns-in_err-build-clause-faults
-returns-in_err-build-clause-faults g c = ?
+returns-in_err-build-clause-faults g c = λ error is s st.
+    let p = err_from_is_err_and c.from_residual-in_err-build.result c.from_residual-in_err-build.ensures.1 in
+    let made = exits_as c.build.result c.from_residual-in_err-build.result c.in_err-build.field-0.0 p.0 error
+    c.in_err-build.was p.1 p.2 is in
+    brings_wrong g.P.Program.meaning c.args.image.now c.args.core.now c.prepare.new.core c.in_ok-prepare.ensures.good
+    error (c.build.ensures.faults error made) s st
 
 pub returns-clause-resumes : goal.returns-clause-resumes
 returns-clause-resumes g c = λ s st same.
