@@ -1,11 +1,11 @@
 -- What makes an image faulty: counts that can't be, a move that can't be made, an output that the moves do not send
 -- out. They are judged in this order, each over the whole image.
-use Rattle.std.specs.Prelude.{◌≡◌, ◌≤◌, ◌<◌, ◌⊎◌, ℕ, zero, suc, ◌+◌, ◌-◌, ◌*◌, ◌/◌, ◌%◌, ◌^◌, List, [], ◌∷◌, ◌++◌, length}
+use Rattle.std.specs.Prelude.{◌≡◌, ◌≤◌, ◌<◌, ◌⊎◌, ℕ, zero, suc, ◌+◌, ◌-◌, ◌*◌, ◌/◌, ◌%◌, ◌^◌, List, [], ◌∷◌, ◌++◌}
+use Rattle.std.specs.Prelude.{length}
 use Rattle.std.specs.Prelude.{Option, Some, None, Ok, Err, if◌then◌else◌, ◌&&◌, nat_eq, Contains}
 use Rattle.plain_text.specs.declared.limit.TheConstants.{MOST_MOVES, MOST_OUTPUT_BYTES}
 use Rattle.plain_machine.specs.declared.plain_move.PlainMove.{PlainMove}
 use Rattle.plain_machine.specs.declared.plain_move.PlayCause.{PlayCause}
-use Rattle.plain_machine.specs.declared.plain_move.PlayFault.{PlayFault}
 use Rattle.plain_machine.specs.History.{Step, sent_of, outputs, plain_move, play}
 use Rattle.recovery_world.specs.World.{Setting, inputs_fed}
 use Rattle.recovery_world.specs.Events.{bytes_sent}
@@ -59,8 +59,8 @@ IsOutputIn steps output = (1 ≤ output.1) × (output.1 ≤ outputs output.0 (se
 
 -- Each of these outputs is one of the history, and none stands twice.
 abbrev pub AreReleased : {V : Type 0} → List (Step V) → List (ℕ × ℕ) → Type 0
-AreReleased steps outputs =
-    (before rest : List (ℕ × ℕ)) (output : ℕ × ℕ) → outputs ≡ before ++ output ∷ rest
+AreReleased steps released =
+    (before rest : List (ℕ × ℕ)) (output : ℕ × ℕ) → released ≡ before ++ output ∷ rest
     → IsOutputIn steps output × (Contains before output → ⊥)
 
 -- the first that is not, by its place from 1

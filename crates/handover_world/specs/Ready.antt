@@ -2,7 +2,6 @@
 -- that was released.
 use Rattle.std.specs.Prelude.{◌≡◌, ◌↔◌, ◌≤◌, ℕ, true, false, List, length, Result, Ok, Err, ⊤}
 use Rattle.entry_order.specs.Log.{Entry, IsIn}
-use Rattle.plain_machine.specs.History.{log_of}
 use Rattle.plain_machine.specs.Agree.{SendsAfter}
 use Rattle.recovery_laws.specs.Sound.{IsEachOnce}
 use Rattle.recovery_world.specs.World.{Sent, World}

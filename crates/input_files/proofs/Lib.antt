@@ -1,3 +1,4 @@
+pub mod ImageVerdicts
 pub mod JudgedTexts
 pub mod OneAnswer
 pub mod OnlyReading

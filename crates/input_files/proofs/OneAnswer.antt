@@ -88,14 +88,14 @@ module _ {A F : Type 0} (says : List ℕ → Result A (InputError F) → Type 0)
       → Judges says healthy name r shown → Judges says healthy name q shown → r ≡ q
   one_answer r q dr dq hr hq = one_read r q (reads r dr hr) (reads q dq hq)
 
-same_fault : (f g : LineFault) → (f.line ≡ g.line) × (f.cause ≡ g.cause) → f ≡ g
+pub same_fault : (f g : LineFault) → (f.line ≡ g.line) × (f.cause ≡ g.cause) → f ≡ g
 same_fault f g same =
     let line : f.line ≡ g.line = same.0 in
     let cause : f.cause ≡ g.cause = same.1 in
     let first : f ≡ record { line = g.line; cause = f.cause } = ap (λ (n : ℕ). record f { line = n }) line in
     first ∙ ap (λ (c : LineCause). record g { cause = c }) cause
 
-no_room : {P : Type 0} (n : ℕ) → n ≤ 67108864 → 67108864 < n → P
+pub no_room : {P : Type 0} (n : ℕ) → n ≤ 67108864 → 67108864 < n → P
 no_room n low high = absurd (omega arith)
 
 -- Box files

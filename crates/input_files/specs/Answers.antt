@@ -25,7 +25,9 @@ use Rattle.plain_machine.specs.declared.plain_move.PlainMove.{PlainMove}
 use Rattle.plain_player.specs.Schedules.{schedule_form}
 use Rattle.plan_script.specs.declared.plan.PlanLine.{PlanLine}
 use Rattle.plan_text.specs.Plans.{plan_form}
+use Rattle.handover.specs.Images as image
 use Rattle.input_files.specs.declared.capture_file.Capture.{Capture}
+use Rattle.input_files.specs.declared.image_file.ImageFile.{ImageFile}
 use Rattle.input_files.specs.declared.errors.InputError.{InputError}
 use Rattle.input_files.specs.declared.errors.InputError.TheVariants as error
 use Rattle.input_files.specs.Texts.{judged_text}
@@ -93,6 +95,35 @@ SaysSchedule bytes answer = SaysFile schedule_form bytes answer
 
 abbrev pub SaysPlan : List ℕ → Result (List PlanLine) (InputError LineFault) → Type 0
 SaysPlan bytes answer = SaysFile plan_form bytes answer
+
+-- Texts of a handover
+
+-- the lines that are judged have no fault but that a line is missing, and are not too many
+abbrev pub ImageMayGoOn : List ℕ → Type 0
+ImageMayGoOn text =
+    ((number : ℕ) (cause : LineCause) → image.FirstFault text number cause → cause ≡ MissingLine)
+    × (image.HasTooMany text → ⊥)
+
+abbrev pub ImagePasses : List ℕ → Limit → Type 0
+ImagePasses bytes limit.File = (MOST_FILE_BYTES < length bytes) × ImageMayGoOn (judged_text bytes)
+ImagePasses bytes limit.Packets = ⊥
+ImagePasses bytes limit.Events = image.HasTooMany (judged_text bytes)
+ImagePasses bytes limit.Moves = ⊥
+ImagePasses bytes limit.OutputBytes = ⊥
+
+abbrev pub SaysImage : List ℕ → Result ImageFile (InputError LineFault) → Type 0
+SaysImage bytes (Ok file) =
+    (length bytes ≤ MOST_FILE_BYTES)
+    × (file.text ≡ bytes) × image.IsImage bytes file.image × (image.HasTooMany bytes → ⊥)
+SaysImage bytes (Err (error.Fault fault)) =
+    image.FirstFault (judged_text bytes) fault.line fault.cause
+    × (image.HasTooMany (judged_text bytes) → ⊥)
+    × (MOST_FILE_BYTES < length bytes → ¬ (fault.cause ≡ MissingLine))
+SaysImage bytes (Err (error.TooLarge passed)) = ImagePasses bytes passed
+SaysImage bytes (Err error.ReadFault) = ⊥
+SaysImage bytes (Err error.NoMemory) = Unit {0}
+
+-- Captures
 
 -- no limit of the whole file goes before: the records or blocks are judged one by one
 abbrev pub SaysCapture : List ℕ → Result Capture (InputError AnyFault) → Type 0

@@ -10,9 +10,11 @@ use Rattle.plain_machine.specs.declared.plain_move.PlainMove.{PlainMove}
 use Rattle.plan_script.specs.declared.plan.PlanLine.{PlanLine}
 use Rattle.world_io.specs.World.{Shown}
 use Rattle.input_files.specs.declared.capture_file.Capture.{Capture}
+use Rattle.input_files.specs.declared.image_file.ImageFile.{ImageFile}
 use Rattle.input_files.specs.declared.errors.InputError.{InputError}
 use Rattle.input_files.specs.declared.errors.InputError.TheVariants as error
-use Rattle.input_files.specs.Answers.{SaysBox, SaysScript, SaysChain, SaysSchedule, SaysPlan, SaysCapture}
+use Rattle.input_files.specs.Answers.{SaysBox, SaysScript, SaysChain, SaysSchedule, SaysPlan, SaysImage}
+use Rattle.input_files.specs.Answers.{SaysCapture}
 use Rattle.input_files.specs.Files.{IsMissing}
 
 -- the name is there, and this is said of its bytes
@@ -58,6 +60,15 @@ PlanTooLarge name limit shown = IsToldOf name (λ bytes. SaysPlan bytes (Err (er
 abbrev pub AcceptsSchedule : List ℕ → List PlainMove → Shown → Type 0
 AcceptsSchedule name moves shown = IsToldOf name (λ bytes. SaysSchedule bytes (Ok moves)) shown
 
+abbrev pub AcceptsImage : List ℕ → ImageFile → Shown → Type 0
+AcceptsImage name file shown = IsToldOf name (λ bytes. SaysImage bytes (Ok file)) shown
+
+abbrev pub FaultsImage : List ℕ → LineFault → Shown → Type 0
+FaultsImage name fault shown = IsToldOf name (λ bytes. SaysImage bytes (Err (error.Fault fault))) shown
+
+abbrev pub ImageTooLarge : List ℕ → Limit → Shown → Type 0
+ImageTooLarge name limit shown = IsToldOf name (λ bytes. SaysImage bytes (Err (error.TooLarge limit))) shown
+
 abbrev pub AcceptsCapture : List ℕ → Capture → Shown → Type 0
 AcceptsCapture name capture shown = IsToldOf name (λ bytes. SaysCapture bytes (Ok capture)) shown
 
@@ -92,6 +103,9 @@ JudgesSchedule healthy name answer shown = Judges SaysSchedule healthy name answ
 
 abbrev pub JudgesPlan : Type 0 → List ℕ → Result (List PlanLine) (InputError LineFault) → Shown → Type 0
 JudgesPlan healthy name answer shown = Judges SaysPlan healthy name answer shown
+
+abbrev pub JudgesImage : Type 0 → List ℕ → Result ImageFile (InputError LineFault) → Shown → Type 0
+JudgesImage healthy name answer shown = Judges SaysImage healthy name answer shown
 
 abbrev pub JudgesCapture : Type 0 → List ℕ → Result Capture (InputError AnyFault) → Shown → Type 0
 JudgesCapture healthy name answer shown = Judges SaysCapture healthy name answer shown

@@ -10,8 +10,9 @@ ghost use Rattle.plan_script.specs.declared.plan.PlanLine.{PlanLine};
 ghost use Rattle.world_io.specs.World.{Shown};
 ghost use Rattle.input_files.specs.declared.capture_file.Capture.{Capture};
 ghost use Rattle.input_files.specs.declared.errors.InputError.{InputError};
+ghost use Rattle.input_files.specs.declared.image_file.ImageFile.{ImageFile};
 ghost use Rattle.input_files.specs.Judging.{JudgesBox, JudgesCapture, JudgesSchedule, JudgesScript};
-ghost use Rattle.input_files.specs.Judging.{JudgesChain, JudgesPlan, IsDecided};
+ghost use Rattle.input_files.specs.Judging.{JudgesChain, JudgesImage, JudgesPlan, IsDecided};
 
 /// A file decides the answer to it: the answers exclude each other, so each comes exactly where what it says is true,
 /// unless memory runs out or, in a world that is not healthy, reading fails.
@@ -45,5 +46,10 @@ pub fn each_file_has_one_answer()
         (a b : Result (List PlanLine) (InputError LineFault)) → IsDecided (IsTrue healthy) a
         → IsDecided (IsTrue healthy) b
         → JudgesPlan (IsTrue healthy) name a shown → JudgesPlan (IsTrue healthy) name b shown
+        → a ≡ b }
+    ensures image { (healthy : Bool) (name : List ℕ) (shown : Shown)
+        (a b : Result ImageFile (InputError LineFault)) → IsDecided (IsTrue healthy) a
+        → IsDecided (IsTrue healthy) b
+        → JudgesImage (IsTrue healthy) name a shown → JudgesImage (IsTrue healthy) name b shown
         → a ≡ b }
 {}

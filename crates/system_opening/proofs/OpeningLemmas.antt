@@ -4,7 +4,7 @@ use Rattle.std.proofs.Common.{◌∙◌, subst, inl, inr, arith, true, None, ◌
 use Rattle.plain_text.specs.Packets.{IsShort}
 use Rattle.plain_text.specs.declared.packet.Packet.{Packet}
 use Rattle.plain_text.specs.declared.packet.Unit.{Unit as FractionUnit}
-use Rattle.random_words.specs.Words.{generator_after}
+use Rattle.drawn_words.specs.Drawn.{drawn_after}
 use Rattle.input_logger.specs.Inputs.{Fed}
 use Rattle.entry_order.specs.Log.{Entry, IsIn}
 use Rattle.access_log.specs.Held.{Lane, fresh_lane}
@@ -102,7 +102,7 @@ opening_guide {V} guide none = subst (λ (g : List Lane). HasGuide [] (opening V
 -- The system stands for the opening.
 pub opening_stands : {P V : Type 0} (m : Meaning V) (threads seed : ℕ) (fractions : FractionUnit)
     (packets : List Packet) (y : Parts P V) → y.fractions ≡ fractions → y.clock ≡ 0
-    → y.generator ≡ generator_after seed 0 → y.left ≡ packets → y.inputs ≡ record { threads = threads; packets = [] }
+    → y.generator ≡ drawn_after seed 0 → y.left ≡ packets → y.inputs ≡ record { threads = threads; packets = [] }
     → y.up ≡ true → Stands m threads [] y.master → y.schedule ≡ [] → y.guide ≡ [] → IsFreshStore m threads y.store
     → y.ended ≡ [] → y.moves ≡ 0 → y.bytes ≡ 0 → IsUnsent threads y.sent → y.logger ≡ fresh_logger threads
     → y.released ≡ []

@@ -6,6 +6,7 @@ ghost use Rattle.recovery_world.specs.World.{Setting, World, opening};
 ghost use Rattle.system_parts.specs.SystemStanding.{StandsFor};
 
 use box_program::Program;
+use drawn_words::words_behind;
 use event_replies::Releases;
 use input_logger::InputLog;
 use master_core::Master;
@@ -57,7 +58,7 @@ pub fn open_parts<P: Program>(
         program,
         unit,
         clock: 0,
-        generator: random_words::generator(seed),
+        generator: words_behind(seed, 0),
         left,
         inputs,
         up: true,

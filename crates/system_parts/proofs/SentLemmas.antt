@@ -3,7 +3,7 @@ use Rattle.std.proofs.Common.{◌≡◌, ℕ, zero, suc, ◌+◌, ◌<◌, ◌�
 use Rattle.std.proofs.Common.{ap, ◌∙◌, subst, inl, inr, ◌⊎◌, arith, add-one, Option, Some, None, true, false, nat_eq}
 use Rattle.std.specs.Prelude.{slice_get, slice_index}
 use Rattle.std.proofs.lemmas.List.{get_or-set_same, get_or-set_other}
-use Rattle.rand_pcg.specs.Lcg.{Lcg}
+use Rattle.drawn_words.specs.Drawn.{Drawn}
 use Rattle.plain_text.specs.declared.packet.Packet.{Packet}
 use Rattle.plain_text.specs.declared.kind.Kind.TheVariants.{Log, Out}
 use Rattle.entry_order.specs.Log.{Entry, entries, IsLog, IsIn}
@@ -218,7 +218,7 @@ abbrev pub after_step : {V : Type 0} → World V → Step V → ℕ → World V
 after_step w step drawn =
     record w { past = step ∷ w.past; drawn = drawn; moves = w.moves + 1; bytes = w.bytes + bytes_sent step.act }
 
-abbrev pub after_note : {P V : Type 0} → Parts P V → Lcg → Mastered V → List PlainMove → ℕ → ℕ → Sending → Parts P V
+abbrev pub after_note : {P V : Type 0} → Parts P V → Drawn → Mastered V → List PlainMove → ℕ → ℕ → Sending → Parts P V
 after_note y g q schedule moves bytes sent =
     record y { generator = g; master = q; schedule = schedule; moves = moves; bytes = bytes; sent = sent }
 
@@ -229,8 +229,8 @@ sends_old : {V : Type 0} (a : Act V) (past : List (Step V)) (o : Emission) (n : 
 sends_old a past o n none (inl (is, at)) = absurd (none o is)
 sends_old a past o n none (inr i) = i
 
-module _ {P V : Type 0} (w : World V) (y : Parts P V) (drawn : ℕ) (g : Lcg) (q : Mastered V) (schedule : List PlainMove)
-    (moves bytes : ℕ) (t : ℕ) (after : Thread) (h : SentOf w y) where
+module _ {P V : Type 0} (w : World V) (y : Parts P V) (drawn : ℕ) (g : Drawn) (q : Mastered V)
+    (schedule : List PlainMove) (moves bytes : ℕ) (t : ℕ) (after : Thread) (h : SentOf w y) where
   pub sent_took : (k : ℕ)
       → SentOf (after_step w (record { thread = t; act = Took k; after = after }) drawn)
       (after_note y g q schedule moves bytes y.sent)

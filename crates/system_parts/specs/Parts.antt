@@ -1,7 +1,7 @@
 -- What a recovering system has in memory.
 use Rattle.std.specs.Prelude.{◌≡◌, ℕ, ◌+◌, ◌^◌, ◌≤◌, ◌<◌, All, Bool, List, length}
 use Rattle.std.specs.Option.{ForSome}
-use Rattle.rand_pcg.specs.Lcg.{Lcg}
+use Rattle.drawn_words.specs.Drawn.{Drawn}
 use Rattle.plain_text.specs.Packets.{IsShort}
 use Rattle.plain_text.specs.declared.limit.TheConstants.{MOST_MOVES, MOST_OUTPUT_BYTES}
 use Rattle.plain_text.specs.declared.packet.Packet.{Packet}
@@ -20,9 +20,9 @@ use Rattle.sent_frames.specs.Sending.{Sending}
 pub record Parts (P V : Type 0) : Type 0 where
   pub program : P
   pub fractions : FractionUnit
-  -- the time, and the generator of free draws
+  -- the time, and the words of free draws
   pub clock : ℕ
-  pub generator : Lcg
+  pub generator : Drawn
   -- the packets of the capture that are not fed yet, and those that are
   pub left : List Packet
   pub inputs : Fed

@@ -1,7 +1,7 @@
 -- Which worlds a recovering system stands for: a record for each of its parts.
 use Rattle.std.specs.Prelude.{◌≡◌, ℕ, ◌+◌, ◌-◌, ◌≤◌, ◌<◌, ◌⊎◌, ◌↔◌, List, [], ◌∷◌, ◌++◌, length, take, drop, slice_get}
 use Rattle.std.specs.Prelude.{slice_index, slice_index_or, Option, Some, None}
-use Rattle.random_words.specs.Words.{generator_after}
+use Rattle.drawn_words.specs.Drawn.{drawn_after}
 use Rattle.entry_order.specs.Log.{Entry, entries, IsIn}
 use Rattle.entry_order.specs.Stamps.{IsStamp, IsOutputStamp}
 use Rattle.access_log.specs.declared.entry.StampedEntry.{StampedEntry}
@@ -36,7 +36,7 @@ pub record HasInputs {P V : Type 0} (m : Meaning V) (s : Setting V) (w : World V
   pub inputs : y.inputs ≡ record { threads = s.threads; packets = take w.fed s.packets }
   pub left : y.left ≡ drop w.fed s.packets
   pub clock : y.clock ≡ w.clock
-  pub generator : y.generator ≡ generator_after s.seed w.drawn
+  pub generator : y.generator ≡ drawn_after s.seed w.drawn
 
 -- The master, also one that is down, is where the machine is after the past, which has no more moves than all masters
 -- made.

@@ -1,11 +1,11 @@
 use box_program::Program;
+use drawn_words::DrawnWords;
 use event_replies::Releases;
 use input_logger::InputLog;
 use master_core::{Counts, Master};
 use output_logger::OutputLogger;
 use plain_machine::Schedule;
 use plain_text::{Packet, Sequence, Unit};
-use rand_pcg::Pcg32;
 use replay_guide::Guide;
 use sent_frames::SentFrames;
 use snapshot_store::Store;
@@ -23,8 +23,8 @@ pub struct Core<P: Program> {
     pub unit: Unit,
     /// The time, in microseconds.
     pub clock: u64,
-    /// The generator of random words, as it is after those that were drawn.
-    pub generator: Pcg32,
+    /// The random words, of which some were drawn.
+    pub generator: DrawnWords,
     /// The packets of the capture that are not fed yet, in order.
     pub left: VecDeque<Packet>,
     /// The packets that were fed, by the thread to which each was steered. It survives a crash.

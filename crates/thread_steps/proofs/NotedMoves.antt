@@ -2,8 +2,7 @@
 use Rattle.std.proofs.Common.{◌≡◌, ℕ, ◌+◌, ◌<◌, ◌≤◌, List, [], ◌∷◌, ◌++◌, length, refl, sym, ap, ◌∙◌, subst, inl, inr}
 use Rattle.std.proofs.Common.{arith, Option, Some, None, Result, Ok, Err, true}
 use Rattle.std.specs.Prelude.{slice_index, IfOk}
-use Rattle.rand_pcg.specs.Lcg.{Lcg}
-use Rattle.random_words.specs.Words.{generator_after}
+use Rattle.drawn_words.specs.Drawn.{Drawn, drawn_after}
 use Rattle.plain_text.specs.declared.limit.Limit.{Limit}
 use Rattle.entry_order.specs.Log.{Entry, entries, IsLog}
 use Rattle.entry_order.specs.Stamps.{IsStamp}
@@ -120,8 +119,8 @@ pub limit_is : (a b : Limit)
 limit_is a b e = cc
 
 module _ {P V : Type 0} (m : Meaning V) (s : Setting V) (w : World V) (y : Parts P V) (st : RestsFor m s w y) (t : ℕ)
-    (given : Option ℕ) (low : t < s.threads) (g : Lcg) (q : Mastered V) (answer : Option ℕ) (drawn : ℕ)
-    (tells : TellsHand s w t given answer drawn (thread_after w.past t).hand) (gen : g ≡ generator_after s.seed drawn)
+    (given : Option ℕ) (low : t < s.threads) (g : Drawn) (q : Mastered V) (answer : Option ℕ) (drawn : ℕ)
+    (tells : TellsHand s w t given answer drawn (thread_after w.past t).hand) (gen : g ≡ drawn_after s.seed drawn)
     (up : w.up ≡ true) where
   abbrev pub mid : Parts P V
   mid = record y { generator = g; master = q }

@@ -3,8 +3,7 @@ use Rattle.std.proofs.Common.{◌≡◌, ℕ, ◌+◌, ◌<◌, ◌≤◌, List,
 use Rattle.std.proofs.Common.{arith, Option, Some, None, Result, Ok, Err, true, false}
 use Rattle.std.specs.Prelude.{◌↔◌, slice_get, slice_index, is_some, IsTrue, IsSome, IfOk, All}
 use Rattle.std.specs.Option.{unwrap_or, option_map}
-use Rattle.rand_pcg.specs.Lcg.{Lcg}
-use Rattle.random_words.specs.Words.{generator_after}
+use Rattle.drawn_words.specs.Drawn.{Drawn, drawn_after}
 use Rattle.plain_text.specs.Packets.{IsShort}
 use Rattle.plain_text.specs.declared.limit.Limit.{Limit}
 use Rattle.plain_text.specs.declared.limit.TheConstants.{MOST_MOVES}
@@ -77,8 +76,8 @@ StopsBefore {P} {V} s w t given limit new =
     (next : World V) × WouldPass (event.Step t given) limit s w next × NotesNames next new
 
 module _ {P V : Type 0} (m : Meaning V) (s : Setting V) (w : World V) (y : Parts P V) (st : StandsFor m s w y) (t : ℕ)
-    (given : Option ℕ) (low : t < s.threads) (g : Lcg) (q : Mastered V) (answer : Option ℕ) (drawn : ℕ)
-    (tells : TellsHand s w t given answer drawn (thread_after w.past t).hand) (gen : g ≡ generator_after s.seed drawn)
+    (given : Option ℕ) (low : t < s.threads) (g : Drawn) (q : Mastered V) (answer : Option ℕ) (drawn : ℕ)
+    (tells : TellsHand s w t given answer drawn (thread_after w.past t).hand) (gen : g ≡ drawn_after s.seed drawn)
     (up : w.up ≡ true) where
   abbrev pub mid : Parts P V
   mid = record y { generator = g; master = q }
@@ -95,7 +94,7 @@ module _ {P V : Type 0} (m : Meaning V) (s : Setting V) (w : World V) (y : Parts
           inputs = st.inputs.inputs;
           left = st.inputs.left;
           clock = st.inputs.clock;
-          generator = gen ∙ ap (generator_after s.seed) none;
+          generator = gen ∙ ap (drawn_after s.seed) none;
         };
         snapshots = st.snapshots;
         ended = st.ended;
@@ -247,7 +246,7 @@ keeps t answer stepped.NoMemory old new res n =
 
 -- What was logged or sent out has a frame.
 pub can_note : {P V : Type 0} (m : Meaning V) (fits : ℕ → V → Type 0) (s : Setting V) (w : World V) (y : Parts P V)
-    (t : ℕ) (answer : Option ℕ) (g : Lcg) (i : Option Packet) (r : Stepped) (q : Mastered V) → IsLawful m fits
+    (t : ℕ) (answer : Option ℕ) (g : Drawn) (i : Option Packet) (r : Stepped) (q : Mastered V) → IsLawful m fits
     → StandsFor m s w y → y.sent.threads ≡ y.inputs.threads → 1 ≤ y.inputs.threads → y.inputs.threads ≤ 16
     → All IsShort y.inputs.packets
     → Follows s.meaning (inputs_fed s w.fed) s.threads w.past (record { thread = t; answer = answer }) r q
@@ -293,14 +292,14 @@ can_note {P} {V} m fits s w y t answer g i r q lawful st threads some few short 
     go stepped.NoMemory f long = tt
 
 -- What the calls of a step tell: its thread is there; what it is told; its input; and what the master answers.
-pub record Calls {P V : Type 0} (m : Meaning V) (y : Parts P V) (t : ℕ) (given answer : Option ℕ) (g : Lcg)
+pub record Calls {P V : Type 0} (m : Meaning V) (y : Parts P V) (t : ℕ) (given answer : Option ℕ) (g : Drawn)
     (i : Option Packet) (r : Stepped) (q : Mastered V) : Type 0 where
   pub low : t < y.inputs.threads
   pub tells : (s : Setting V) (w : World V) → s.meaning ≡ m → Sound s w → HasGuide w.followed w.past y.guide
-      → Stands s.meaning s.threads w.past y.master → w.clock ≡ y.clock → y.generator ≡ generator_after s.seed w.drawn
+      → Stands s.meaning s.threads w.past y.master → w.clock ≡ y.clock → y.generator ≡ drawn_after s.seed w.drawn
       → (drawn : ℕ)
       × TellsHand s w t given answer drawn (thread_after w.past t).hand
-      × (g ≡ generator_after s.seed drawn)
+      × (g ≡ drawn_after s.seed drawn)
   pub asked : (s : Setting V) (w : World V) → s.meaning ≡ m → Stands s.meaning s.threads w.past y.master
       → told_in s.meaning (thread_after w.past t).hand (unwrap_or answer 0) ≡ answer
   pub number : ℕ
@@ -366,8 +365,8 @@ awaits_draws s w t given answer drawn move.Emit e a tells = absurd a
 awaits_draws s w t given answer drawn move.End e a tells = absurd a
 
 -- The parts are given by the equation that tells what they were.
-module _ {P V : Type 0} (m : Meaning V) (y old : Parts P V) (same : y ≡ old) (t : ℕ) (given answer : Option ℕ) (g : Lcg)
-    (i : Option Packet) (r : Stepped) (q : Mastered V) (calls : Calls m y t given answer g i r q) where
+module _ {P V : Type 0} (m : Meaning V) (y old : Parts P V) (same : y ≡ old) (t : ℕ) (given answer : Option ℕ)
+    (g : Drawn) (i : Option Packet) (r : Stepped) (q : Mastered V) (calls : Calls m y t given answer g i r q) where
   -- the input, the master's answer and what was told, for the setting and the world
   input_is : (s : Setting V) (w : World V) → StandsFor m s w y → IsInputAfter (inputs_fed s w.fed) t w.past i
   input_is s w st = subst (λ (f : Fed). IsInputAfter (inputs_of f) t w.past i) st.inputs.inputs
@@ -389,7 +388,7 @@ module _ {P V : Type 0} (m : Meaning V) (y old : Parts P V) (same : y ≡ old) (
   told_is : (s : Setting V) (w : World V) → StandsFor m s w y
       → (drawn : ℕ)
       × TellsHand s w t given answer drawn (thread_after w.past t).hand
-      × (g ≡ generator_after s.seed drawn)
+      × (g ≡ drawn_after s.seed drawn)
   told_is s w st =
       calls.tells s w st.inputs.meaning st.sound st.guide st.master.stands (sym st.inputs.clock) st.inputs.generator
 
@@ -492,7 +491,7 @@ module _ {P V : Type 0} (m : Meaning V) (y old : Parts P V) (same : y ≡ old) (
     where
       told : (drawn : ℕ)
           × TellsHand s w t given answer drawn (thread_after w.past t).hand
-          × (g ≡ generator_after s.seed drawn)
+          × (g ≡ drawn_after s.seed drawn)
       told = told_is s w st
 
       f : Makes s.meaning (inputs_fed s w.fed) s.threads w.past (record { thread = t; answer = answer }) q
@@ -546,7 +545,7 @@ stopped_at {P} {V} meaning y old after t given res limit same stops =
 
 -- The master made a move, which is not noted yet.
 pub makes_next : {P V : Type 0} (meaning : P → Meaning V) (y old : Parts P V) (same : y ≡ old) (t : ℕ)
-    (given answer : Option ℕ) (g : Lcg) (i : Option Packet) (r : Stepped) (q : Mastered V)
+    (given answer : Option ℕ) (g : Drawn) (i : Option Packet) (r : Stepped) (q : Mastered V)
     → Calls (meaning y.program) y t given answer g i r q
     → MakesNext (meaning old.program) t given answer r old (record y { generator = g; master = q })
 makes_next {P} {V} meaning y old same t given answer g i r q calls = record {
@@ -561,3 +560,14 @@ makes_next {P} {V} meaning y old same t given answer g i r q calls = record {
       step_logs (meaning y.program) y old same t given answer g i r q calls e is s w
       (subst (λ (z : Parts P V). StandsFor (meaning z.program) s w z) (sym same) st);
 }
+
+-- A thread that there is none of does nothing.
+pub past_threads : {P V : Type 0} (m : Meaning V) (s : Setting V) (w : World V) (y : Parts P V) (t : ℕ)
+    (given : Option ℕ) → StandsFor m s w y → y.inputs.threads ≤ t
+    → (x : World V)
+    × ((OnStep s w t given outcome.Nothing x × (let none : List Sent = [] in none ≡ [])) × IsWithin x)
+    × StandsFor m s x y
+past_threads m s w y t given st high = (w, ((inl (low, refl, refl), refl), st.within), st)
+  where
+    low : s.threads ≤ t
+    low = subst (λ (i : Fed). i.threads ≤ t) st.inputs.inputs high

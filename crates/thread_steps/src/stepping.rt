@@ -1,7 +1,7 @@
 ghost use Rattle.std.specs.Prelude.{◌≡◌, ◌<◌, ◌≤◌, ◌+◌, ℕ, List, IfOk, OnOk, OnErr, Some, Err};
 ghost use Rattle.std.specs.Prelude.{true};
 ghost use Rattle.std.specs.Option.{unwrap_or};
-ghost use Rattle.random_words.specs.Words.{generator_after};
+ghost use Rattle.drawn_words.specs.Drawn.{drawn_after};
 ghost use Rattle.plain_text.specs.declared.limit.Limit.{Limit as LimitKind};
 ghost use Rattle.plain_text.specs.declared.limit.TheConstants.{MOST_CAPTURED};
 ghost use Rattle.plain_machine.specs.History.{Step, thread_after};
@@ -22,13 +22,12 @@ ghost use Rattle.thread_steps.specs.Stepping.{CanNote, Notes, NotesMove, MakesNe
 
 use access_log::{Turn, What};
 use box_program::Program;
+use drawn_words::{DrawnWords, draw};
 use event_replies::Stop;
 use kept_moves::Form;
 use master_core::{Stepped, Wants};
 use plain_machine::PlainMove;
 use plain_text::{Limit, MOST_MOVES, MOST_OUTPUT_BYTES};
-use rand_pcg::Pcg32;
-use random_words::next_word;
 use recovery_world::Outcome;
 use replay_guide::Guide;
 use run_end::input_of;
@@ -117,20 +116,20 @@ fn recorded_or(guide: &Guide, thread: u32, number: u64, given: Option<u64>) -> O
 }
 
 /// What the thread's next move is told, if it asks: what is recorded, else the given answer, else the time or the next
-/// word of the generator.
+/// random word.
 fn told<P: Program>(
     wants: Wants,
     guide: &Guide,
-    generator: &mut Pcg32,
+    words: &mut DrawnWords,
     clock: u64,
     thread: u32,
     given: Option<u64>,
 ) -> Option<u64>
     ensures tells { (s : Setting P.Value) (w : World P.Value)
         → wants ≡ wanted s.meaning w.past thread → Sound s w → HasGuide w.followed w.past guide.now
-        → w.clock ≡ clock → generator.old ≡ generator_after s.seed w.drawn
+        → w.clock ≡ clock → words.old ≡ drawn_after s.seed w.drawn
         → (drawn : ℕ) × TellsHand s w thread given result drawn (thread_after w.past thread).hand
-        × (generator.new ≡ generator_after s.seed drawn) }
+        × (words.new ≡ drawn_after s.seed drawn) }
     ensures asked { (s : Setting P.Value) (w : World P.Value)
         → wants ≡ wanted s.meaning w.past thread
         → told_in s.meaning (thread_after w.past thread).hand (unwrap_or result 0) ≡ result }
@@ -139,7 +138,7 @@ fn told<P: Program>(
         Wants::Clock(number) => Some(recorded_or(guide, thread, number, given).unwrap_or(clock)),
         Wants::Draw(number) => match recorded_or(guide, thread, number, given) {
             Some(answer) => Some(answer),
-            None => Some(u64::from(next_word(generator))),
+            None => Some(u64::from(draw(words))),
         },
         _ => None,
     }

@@ -1,7 +1,8 @@
 use Rattle.std.specs.Prelude.{IsTrue}
-use Rattle.input_files.specs.Answers.{SaysBox, SaysCapture, SaysChain, SaysPlan, SaysSchedule, SaysScript}
+use Rattle.input_files.specs.Answers.{SaysBox, SaysCapture, SaysChain, SaysImage, SaysPlan, SaysSchedule, SaysScript}
 use Rattle.input_files.proofs.OneAnswer.{one_answer, one_box, one_capture, one_chain, one_plan, one_schedule}
 use Rattle.input_files.proofs.OneAnswer.{one_script}
+use Rattle.input_files.proofs.ImageVerdicts.{one_image}
 use Rattle.input_files.proofs.laws.each_file_has_one_answer.Goals as goal
 
 pub returns-clause-box_file : goal.returns-clause-box_file
@@ -22,3 +23,6 @@ returns-clause-schedule c =
 
 pub returns-clause-plan : goal.returns-clause-plan
 returns-clause-plan c = λ healthy name shown a b. one_answer SaysPlan one_plan (IsTrue healthy) name shown a b
+
+pub returns-clause-image : goal.returns-clause-image
+returns-clause-image c = λ healthy name shown a b. one_answer SaysImage one_image (IsTrue healthy) name shown a b

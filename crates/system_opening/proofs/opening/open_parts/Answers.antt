@@ -16,7 +16,7 @@ invariant_of-result g c =
 pub returns-clause-stands : goal.returns-clause-stands
 returns-clause-stands g c =
     opening_stands (g.P.Program.meaning c.args.program) c.args.threads c.args.seed c.args.unit c.args.packets _
-    refl refl c.generator.ensures.fresh
+    refl refl c.words_behind.ensures
     (c.from_vec-left.ensures.items ∙ c.into_vec.ensures)
     c.in_ok-inputs.ensures refl
     c.in_ok-master.ensures.stands

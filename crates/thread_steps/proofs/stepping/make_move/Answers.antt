@@ -37,7 +37,7 @@ returns-clause-can g c =
     let w = c.requires.stands.1 in
     let st = subst (λ q. StandsFor (g.P.Program.meaning q.program) s w q) (sym c.core.view_is) c.requires.stands.2 in
     step_can (g.P.Program.meaning c.core.inside.program) _ _ c.core.view_is c.args.thread c.args.given
-    c.told-answer.result c.told-answer.new.generator (option_copied c.input_of-input.result) c.make-stepped.result
+    c.told-answer.result c.told-answer.new.words (option_copied c.input_of-input.result) c.make-stepped.result
     c.make-stepped.new.self (record {
       low = subst (λ q. c.args.thread < q.inputs.threads) (sym c.core.view_is) c.requires.thread_in;
       tells = λ s w is sound guides stands time generator.
@@ -65,7 +65,7 @@ returns-clause-can g c =
 pub returns-clause-made : goal.returns-clause-made
 returns-clause-made g c =
     makes_next g.P.Program.meaning _ _ c.core.view_is c.args.thread c.args.given
-    c.told-answer.result c.told-answer.new.generator (option_copied c.input_of-input.result) c.make-stepped.result
+    c.told-answer.result c.told-answer.new.words (option_copied c.input_of-input.result) c.make-stepped.result
     c.make-stepped.new.self (record {
       low = subst (λ q. c.args.thread < q.inputs.threads) (sym c.core.view_is) c.requires.thread_in;
       tells = λ s w is sound guides stands time generator.

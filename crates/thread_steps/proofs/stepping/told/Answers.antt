@@ -61,8 +61,8 @@ returns-in-None-clause-tells g c = λ s w is sound guides time generator.
     let told =
     c.recorded_or-in-Draw.ensures
     ∙ ap (λ k. or_given (recorded (entry_at (lane c.args.guide.now c.args.thread) k)) c.args.given) number in
-    let word = c.next_word.ensures.word s.seed w.drawn generator in
-    let after = c.next_word.ensures.after s.seed w.drawn generator in (
+    let word = c.draw.ensures.word s.seed w.drawn generator in
+    let after = c.draw.ensures.after s.seed w.drawn generator in (
       w.drawn + 1,
       tells_draw s w c.args.guide.now sound guides.follows c.args.thread c.args.given c.from.result (w.drawn + 1)
           c.recorded_or-in-Draw.result told (asks_draw s.meaning w.past c.args.thread _ wants)

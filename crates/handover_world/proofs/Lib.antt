@@ -1,0 +1,12 @@
+pub mod Counting
+pub mod Examples
+pub mod GoingOn
+pub mod HandedImages
+pub mod ImageWorlds
+pub mod OneFault
+pub mod OneImage
+pub mod Readiness
+pub mod Resting
+pub mod SentOutputs
+pub mod SplitLists
+pub mod WorldImages
