@@ -1,6 +1,7 @@
 pub mod AppendedLemmas
-pub mod RepliesLemmas
 pub mod FinishLemmas
+pub mod HandingLemmas
 pub mod LackingLemmas
 pub mod PartingLemmas
+pub mod RepliesLemmas
 pub mod WaitingLemmas

@@ -1,0 +1,8 @@
+use Rattle.std.proofs.Common.{take}
+use Rattle.system_images.specs.Building.{MakesAll}
+use Rattle.system_images.proofs.BuildingLemmas.{MovedTo}
+use Rattle.system_images.proofs.building.make_moves.Given as goal
+
+-- the first moves are made
+abbrev pub invariant-loop-plain : goal.invariant-loop-plain
+invariant-loop-plain g l = MovedTo g.P.Program.meaning (MakesAll (take l.plain-index l.moves)) l.fn.core l.core
