@@ -242,10 +242,11 @@ module _ {P V : Type 0} (m : Meaning V) (s : Setting V) (image : Image) (here : 
           subst (λ (n : ℕ). HasEnded s.threads n w.ended ended) (omega (arith, all, number))
           (counted w.ended i.ended long);
       guide = record {
-        follows = λ e not.
-            (λ k. absurd (not (rest.followed e k))),
-            (λ k. absurd (none_in e here.followed h.followed ((st.guide.follows e (λ j. not
-                (subst (λ (l : List (Step V)). IsIn e (log_of l)) past j))).1 k)));
+        follows = λ e not. (
+          λ k. absurd (not (rest.followed e k)),
+          λ k. absurd (none_in e here.followed h.followed ((st.guide.follows e (λ j. not
+              (subst (λ (l : List (Step V)). IsIn e (log_of l)) past j))).1 k)),
+        );
         only = λ e k. absurd (none_in e here.followed h.followed (st.guide.only e k));
         began = st.guide.began;
         holds = holds_moves (here.followed ++ log_of here.past) (w.followed ++ log_of w.past) st.guide.began y.guide to
@@ -258,14 +259,16 @@ module _ {P V : Type 0} (m : Meaning V) (s : Setting V) (image : Image) (here : 
         holds = subst (λ (l : List (Step V)). HoldsOf (w.followed ++ log_of w.past) (log_of l) y.logger.held) stored
             (holds_moves (here.followed ++ log_of here.past) (w.followed ++ log_of w.past) (log_of here.stored)
             y.logger.held to back st.logger.holds);
-        held = λ e.
-            (λ k. absurd (none_in e here.held h.held ((st.logger.held e).0 k).0)),
-            (λ k. absurd (k.1 (past_stored e (rest.held e k.0))));
+        held = λ e. (
+          λ k. absurd (none_in e here.held h.held ((st.logger.held e).0 k).0),
+          λ k. absurd (k.1 (past_stored e (rest.held e k.0))),
+        );
         waiting = subst (λ (l : List Sent). AreOutputs (log_of w.past) y.logger.waiting l) (h.waiting ∙ sym rest.waiting)
             (subst (λ (l : List (Step V)). AreOutputs (log_of l) y.logger.waiting here.waiting) past st.logger.waiting);
-        released = λ t n.
-            (λ k. same_number t n here.released w.released names ((st.logger.released t n).0 k)),
-            (λ k. (st.logger.released t n).1 (same_number t n w.released here.released (sym names) k));
+        released = λ t n. (
+          λ k. same_number t n here.released w.released names ((st.logger.released t n).0 k),
+          λ k. (st.logger.released t n).1 (same_number t n w.released here.released (sym names) k),
+        );
       };
       released = st.released ∙ names;
     }

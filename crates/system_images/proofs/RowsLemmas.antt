@@ -474,7 +474,7 @@ split_rows threads b (suc a) c (row ∷ rows) e =
     go : (t : Bool) → IsNext threads b row ≡ t
         → (wrong_row threads (b + 1) (a + c) rows ≡ None → Split threads (b + 1) a c rows)
         → Split threads b (suc a) c (row ∷ rows)
-    go false is later = absurd (let bad = bad_row threads b (a + c) row rows is in cc)
+    go false is later = absurd (let bad = bad_row threads b (a + c) row rows is in let good = more in cc)
     go true is later =
         let r = later (sym (next_row threads b (a + c) row rows is) ∙ more) in
         record {
