@@ -577,8 +577,12 @@ one_epoch threads k t (suc many) (row ∷ rows) all e =
 
 pub epochs_there : (threads n : ℕ) (rows : List Ended) → wrong_row threads 0 (n * threads) rows ≡ None
     → (xs : List EndedEpoch) × (rows ≡ ended_rows threads xs) × (length xs ≡ n)
-epochs_there threads zero rows e = ([], none rows (ap (λ n. wrong_row threads 0 n rows)
-    (let q : 0 ≡ 0 * threads = omega arith in q) ∙ e), refl)
+epochs_there threads zero rows e = (
+  [],
+  none rows (ap (λ n. wrong_row threads 0 n rows)
+      (let q : 0 ≡ 0 * threads = omega arith in q) ∙ e),
+  refl,
+)
   where
     none : (rows : List Ended) → wrong_row threads 0 0 rows ≡ None → rows ≡ []
     none [] e = refl
