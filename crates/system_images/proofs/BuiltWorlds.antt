@@ -80,7 +80,7 @@ turned {V} s w mid next to other (inr a, f) (inr b, g) fed epoch h = record {
 -- A move
 
 -- a legal move, by what its thread does
-legal_move : {V : Type 0} (m : Meaning V) (inputs : ℕ → List Packet) (threads : ℕ) (steps more : List (Step V))
+pub legal_move : {V : Type 0} (m : Meaning V) (inputs : ℕ → List Packet) (threads : ℕ) (steps more : List (Step V))
     (plain : PlainMove) → plain_move m inputs threads steps plain ≡ Ok more
     → (plain.thread < threads) × (after : Thread) × (effect : Effect V)
     × (thread_move m (inputs plain.thread) (value_after m steps) (thread_after steps plain.thread) plain.answer

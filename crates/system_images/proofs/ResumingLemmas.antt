@@ -275,10 +275,10 @@ module _ {P V : Type 0} (m : Meaning V) (s : Setting V) (image : Image) (here : 
 
   -- There is such a world
 
-  epochs : (xs : List EndedEpoch) × (image.ended ≡ ended_rows s.threads xs) × (length xs ≡ image.epoch - 1)
+  abbrev pub epochs : (xs : List EndedEpoch) × (image.ended ≡ ended_rows s.threads xs) × (length xs ≡ image.epoch - 1)
   epochs = epochs_there s.threads (image.epoch - 1) image.ended played.rows
 
-  there : World V
+  abbrev pub there : World V
   there = record here {
     ended = epochs.0;
     clock = image.clock;
