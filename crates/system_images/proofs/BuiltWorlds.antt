@@ -43,6 +43,9 @@ use Rattle.system_images.proofs.ReadyLemmas.{none_sent}
 pub ok_same : {A E : Type 0} (a b : A) (r : Result A E) → r ≡ Ok a → r ≡ Ok b → a ≡ b
 ok_same a b r p q = cc
 
+pub never_both : {A E : Type 0} (r : Result A E) (x : E) (a : A) → r ≡ Err x → r ≡ Ok a → ⊥
+never_both r x a p q = cc
+
 -- A crash and a recovery
 
 none_of : {V : Type 0} (w : World V) (part : List Entry) → w.held ≡ [] → IsPartOf w.held part → part ≡ []

@@ -44,7 +44,7 @@ use Rattle.handover_world.specs.Faults.{AreReleased, IsFault}
 use Rattle.handover_world.specs.Images.{IsAtRest, IsImageOf, ended_rows}
 use Rattle.system_images.specs.Judging.{CountsMayBe, PlaysWhole}
 use Rattle.system_images.specs.Building.{Builds, IsBuilt, Prepares, Resumes}
-use Rattle.system_images.proofs.BuiltWorlds.{legal_move, name_there, named_there, ok_same}
+use Rattle.system_images.proofs.BuiltWorlds.{legal_move, name_there, named_there, never_both, ok_same}
 use Rattle.system_images.proofs.RowsLemmas.{epochs_there}
 
 -- The moves of a history are those that it was played by
@@ -97,9 +97,9 @@ moves_on {V} m inputs threads (plain ∷ moves) past steps e =
         → moves_made steps ≡ moves_made more ++ moves)
         → moves_made steps ≡ moves_made past ++ plain ∷ moves
     go (Err cause) k e later =
-        let bad : Err (record { number = length past + 1; cause = cause }) ≡ Ok steps =
-        sym (stuck m inputs threads moves (record { number = length past + 1; cause = cause })) ∙ e in
-        absurd (cc)
+        let fault : PlayFault = record { number = length past + 1; cause = cause } in
+        absurd (never_both (and_moves m inputs threads (Err fault) moves) fault steps
+        (stuck m inputs threads moves fault) e)
     go (Ok more) k e later =
         later more e
         ∙ (ap (λ (l : List PlainMove). l ++ moves) (one_move m inputs threads past more plain k)
