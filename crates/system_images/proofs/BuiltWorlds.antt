@@ -43,6 +43,9 @@ use Rattle.system_images.proofs.ReadyLemmas.{none_sent}
 pub ok_same : {A E : Type 0} (a b : A) (r : Result A E) → r ≡ Ok a → r ≡ Ok b → a ≡ b
 ok_same a b r p q = cc
 
+pub never_both : {A E : Type 0} (r : Result A E) (x : E) (a : A) → r ≡ Err x → r ≡ Ok a → ⊥
+never_both r x a p q = cc
+
 -- A crash and a recovery
 
 none_of : {V : Type 0} (w : World V) (part : List Entry) → w.held ≡ [] → IsPartOf w.held part → part ≡ []
@@ -80,7 +83,7 @@ turned {V} s w mid next to other (inr a, f) (inr b, g) fed epoch h = record {
 -- A move
 
 -- a legal move, by what its thread does
-legal_move : {V : Type 0} (m : Meaning V) (inputs : ℕ → List Packet) (threads : ℕ) (steps more : List (Step V))
+pub legal_move : {V : Type 0} (m : Meaning V) (inputs : ℕ → List Packet) (threads : ℕ) (steps more : List (Step V))
     (plain : PlainMove) → plain_move m inputs threads steps plain ≡ Ok more
     → (plain.thread < threads) × (after : Thread) × (effect : Effect V)
     × (thread_move m (inputs plain.thread) (value_after m steps) (thread_after steps plain.thread) plain.answer

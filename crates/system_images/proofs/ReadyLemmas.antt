@@ -233,9 +233,12 @@ module _ {P V : Type 0} (m : Meaning V) (fits : ℕ → V → Type 0) (lawful : 
           let i = st.guide.only (plain_entry there.0) (at_held y.guide (plain_entry there.0) t number there.0 is refl) in
           let same : entries there.0.thread past ≡ entries t past = ap (λ (u : ℕ). entries u past) of.0 in
           let num = of.1 in
-          let come = (st.sound.firm.to_come (plain_entry there.0)).1 (i, λ j.
-          let n = number_within past (plain_entry there.0) (tail_log more past st.sound.firm.log) j in
-          omega (arith, n, same, num, k, counts)) in
+          let come = (st.sound.firm.to_come (plain_entry there.0)).1 (
+            i,
+            λ j.
+                let n = number_within past (plain_entry there.0) (tail_log more past st.sound.firm.log) j in
+                omega (arith, n, same, num, k, counts),
+          ) in
           let all = number_within (more ++ past) (plain_entry there.0) st.sound.firm.log
           (in_left (plain_entry there.0) more past come) in
           let line : entries there.0.thread (more ++ past) ≡ entries t (more ++ past) =

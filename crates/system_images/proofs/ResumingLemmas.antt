@@ -44,7 +44,7 @@ use Rattle.handover_world.specs.Faults.{AreReleased, IsFault}
 use Rattle.handover_world.specs.Images.{IsAtRest, IsImageOf, ended_rows}
 use Rattle.system_images.specs.Judging.{CountsMayBe, PlaysWhole}
 use Rattle.system_images.specs.Building.{Builds, IsBuilt, Prepares, Resumes}
-use Rattle.system_images.proofs.BuiltWorlds.{legal_move, name_there, named_there, ok_same}
+use Rattle.system_images.proofs.BuiltWorlds.{legal_move, name_there, named_there, never_both, ok_same}
 use Rattle.system_images.proofs.RowsLemmas.{epochs_there}
 
 -- The moves of a history are those that it was played by
@@ -97,9 +97,9 @@ moves_on {V} m inputs threads (plain ∷ moves) past steps e =
         → moves_made steps ≡ moves_made more ++ moves)
         → moves_made steps ≡ moves_made past ++ plain ∷ moves
     go (Err cause) k e later =
-        let bad : Err (record { number = length past + 1; cause = cause }) ≡ Ok steps =
-        sym (stuck m inputs threads moves (record { number = length past + 1; cause = cause })) ∙ e in
-        absurd (cc)
+        let fault : PlayFault = record { number = length past + 1; cause = cause } in
+        absurd (never_both (and_moves m inputs threads (Err fault) moves) fault steps
+        (stuck m inputs threads moves fault) e)
     go (Ok more) k e later =
         later more e
         ∙ (ap (λ (l : List PlainMove). l ++ moves) (one_move m inputs threads past more plain k)
@@ -242,10 +242,11 @@ module _ {P V : Type 0} (m : Meaning V) (s : Setting V) (image : Image) (here : 
           subst (λ (n : ℕ). HasEnded s.threads n w.ended ended) (omega (arith, all, number))
           (counted w.ended i.ended long);
       guide = record {
-        follows = λ e not.
-            (λ k. absurd (not (rest.followed e k))),
-            (λ k. absurd (none_in e here.followed h.followed ((st.guide.follows e (λ j. not
-                (subst (λ (l : List (Step V)). IsIn e (log_of l)) past j))).1 k)));
+        follows = λ e not. (
+          λ k. absurd (not (rest.followed e k)),
+          λ k. absurd (none_in e here.followed h.followed ((st.guide.follows e (λ j. not
+              (subst (λ (l : List (Step V)). IsIn e (log_of l)) past j))).1 k)),
+        );
         only = λ e k. absurd (none_in e here.followed h.followed (st.guide.only e k));
         began = st.guide.began;
         holds = holds_moves (here.followed ++ log_of here.past) (w.followed ++ log_of w.past) st.guide.began y.guide to
@@ -258,24 +259,26 @@ module _ {P V : Type 0} (m : Meaning V) (s : Setting V) (image : Image) (here : 
         holds = subst (λ (l : List (Step V)). HoldsOf (w.followed ++ log_of w.past) (log_of l) y.logger.held) stored
             (holds_moves (here.followed ++ log_of here.past) (w.followed ++ log_of w.past) (log_of here.stored)
             y.logger.held to back st.logger.holds);
-        held = λ e.
-            (λ k. absurd (none_in e here.held h.held ((st.logger.held e).0 k).0)),
-            (λ k. absurd (k.1 (past_stored e (rest.held e k.0))));
+        held = λ e. (
+          λ k. absurd (none_in e here.held h.held ((st.logger.held e).0 k).0),
+          λ k. absurd (k.1 (past_stored e (rest.held e k.0))),
+        );
         waiting = subst (λ (l : List Sent). AreOutputs (log_of w.past) y.logger.waiting l) (h.waiting ∙ sym rest.waiting)
             (subst (λ (l : List (Step V)). AreOutputs (log_of l) y.logger.waiting here.waiting) past st.logger.waiting);
-        released = λ t n.
-            (λ k. same_number t n here.released w.released names ((st.logger.released t n).0 k)),
-            (λ k. (st.logger.released t n).1 (same_number t n w.released here.released (sym names) k));
+        released = λ t n. (
+          λ k. same_number t n here.released w.released names ((st.logger.released t n).0 k),
+          λ k. (st.logger.released t n).1 (same_number t n w.released here.released (sym names) k),
+        );
       };
       released = st.released ∙ names;
     }
 
   -- There is such a world
 
-  epochs : (xs : List EndedEpoch) × (image.ended ≡ ended_rows s.threads xs) × (length xs ≡ image.epoch - 1)
+  abbrev pub epochs : (xs : List EndedEpoch) × (image.ended ≡ ended_rows s.threads xs) × (length xs ≡ image.epoch - 1)
   epochs = epochs_there s.threads (image.epoch - 1) image.ended played.rows
 
-  there : World V
+  abbrev pub there : World V
   there = record here {
     ended = epochs.0;
     clock = image.clock;

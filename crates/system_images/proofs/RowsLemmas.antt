@@ -474,7 +474,7 @@ split_rows threads b (suc a) c (row ∷ rows) e =
     go : (t : Bool) → IsNext threads b row ≡ t
         → (wrong_row threads (b + 1) (a + c) rows ≡ None → Split threads (b + 1) a c rows)
         → Split threads b (suc a) c (row ∷ rows)
-    go false is later = absurd (let bad = bad_row threads b (a + c) row rows is in cc)
+    go false is later = absurd (let bad = bad_row threads b (a + c) row rows is in let good = more in cc)
     go true is later =
         let r = later (sym (next_row threads b (a + c) row rows is) ∙ more) in
         record {
@@ -577,8 +577,12 @@ one_epoch threads k t (suc many) (row ∷ rows) all e =
 
 pub epochs_there : (threads n : ℕ) (rows : List Ended) → wrong_row threads 0 (n * threads) rows ≡ None
     → (xs : List EndedEpoch) × (rows ≡ ended_rows threads xs) × (length xs ≡ n)
-epochs_there threads zero rows e = ([], none rows (ap (λ n. wrong_row threads 0 n rows)
-    (let q : 0 ≡ 0 * threads = omega arith in q) ∙ e), refl)
+epochs_there threads zero rows e = (
+  [],
+  none rows (ap (λ n. wrong_row threads 0 n rows)
+      (let q : 0 ≡ 0 * threads = omega arith in q) ∙ e),
+  refl,
+)
   where
     none : (rows : List Ended) → wrong_row threads 0 0 rows ≡ None → rows ≡ []
     none [] e = refl

@@ -76,11 +76,7 @@ pub fn store_all<P: Program>(core: &mut Core<P>) -> Result<(), NoMemory>
 }
 
 /// An output arrives, and goes at once: whether it was there, and not released before.
-fn release_one<P: Program>(
-    core: &mut Core<P>,
-    thread: u32,
-    number: u64,
-) -> Result<bool, NoMemory>
+fn release_one<P: Program>(core: &mut Core<P>, thread: u32, number: u64) -> Result<bool, NoMemory>
     requires stands { StandsForSome (P.meaning core.old.program) core.old }
     ensures { IfOk result (λ good. MovesOn (P.meaning core.old.program)
         (ReleasesOne thread number good) core.old core.new) }
