@@ -1,7 +1,7 @@
 use Rattle.std.proofs.Common.{refl, sym, subst}
 use Rattle.system_parts.specs.SystemStanding.{StandsForSome}
 use Rattle.recovery_core.proofs.HandingLemmas.{handed_on, stands_for_one}
-use Rattle.recovery_core.proofs.handing.System.resume.Goals as goal
+use Rattle.recovery_core.proofs.system.System.resume.Goals as goal
 
 pub invariant_of-result : goal.invariant_of-result
 invariant_of-result g c = λ runs. subst (λ p. StandsForSome (g.P.Program.meaning p) c.in_ok-core.core)
