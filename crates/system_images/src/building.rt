@@ -44,7 +44,8 @@ pub fn turn_epochs<P: Program>(core: &mut Core<P>, many: u32) -> Result<(), NoMe
 /// The master makes one move. That no limit is passed was judged before.
 fn make_one<P: Program>(core: &mut Core<P>, plain: PlainMove) -> Result<(), NoMemory>
     requires stands { StandsForSome (P.meaning core.old.program) core.old }
-    ensures { OnOk result (MovesOn (P.meaning core.old.program) (MakesOne plain) core.old core.new) }
+    ensures { OnOk result
+        (MovesOn (P.meaning core.old.program) (MakesOne plain) core.old core.new) }
 {
     match step(core, u64::from(plain.thread), plain.answer) {
         Ok(_) => Ok(()),

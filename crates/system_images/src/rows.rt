@@ -1,5 +1,6 @@
 //! The rows of the ended epochs: which is wrong, and what they say as counts.
-ghost use Rattle.std.specs.Prelude.{◌≡◌, ◌≤◌, ◌<◌, ◌^◌, ◌-◌, ◌+◌, ◌*◌, ◌/◌, ◌%◌, ◌&&◌, IfOk, List, nat_eq};
+ghost use Rattle.std.specs.Prelude.{◌≡◌, ◌≤◌, ◌<◌, ◌^◌, ◌-◌, ◌+◌, ◌*◌, ◌/◌, ◌%◌, ◌&&◌, IfOk, List};
+ghost use Rattle.std.specs.Prelude.{nat_eq};
 ghost use Rattle.std.specs.Prelude.{length};
 ghost use Rattle.handover_world.specs.Faults.{wrong_row as wrong_row_in};
 ghost use Rattle.handover_world.specs.Images.{ended_rows};
