@@ -174,7 +174,8 @@ module _ {P V : Type 0} (m : P → Meaning V) where
           ∙ (ap (λ (l : List PlainMove). play s.meaning (inputs_fed s fed) s.threads l)
           (sym (take_more moves i d less ∙ ap (λ (p : PlainMove). take i moves ++ p ∷ []) (sym is))) ∙ plays))
         where
-          one : (earlier : List (Step V)) (o : Result (List (Step V)) PlayCause) → numbered (length earlier) o ≡ Ok steps
+          one : (earlier : List (Step V)) (o : Result (List (Step V)) PlayCause) → numbered (length earlier) o ≡ Ok
+              steps
               → o ≡ Ok steps
           one earlier (Ok more) e = cc
           one earlier (Err cause) e = absurd (cc)
@@ -228,7 +229,8 @@ module _ {P V : Type 0} (m : P → Meaning V) where
       (λ s w here next x y k l played h. l image.fed image.epoch played.steps (k played h))
       (chain (Turns many) (MakesAll image.past) (Made image) old a b
       (λ s w here next x y k l played h. l image.fed image.epoch played.steps
-      (subst (λ (n : ℕ). IsBuilt image.fed n [] [] [] here) (omega (arith, count)) (k image.fed 1 h)) played.plays) p q) r
+      (subst (λ (n : ℕ). IsBuilt image.fed n [] [] [] here) (omega (arith, count)) (k image.fed 1 h)) played.plays) p
+      q) r
 
   is_fault : (s : Setting V) (image : Image) (played : PlaysWhole s image) (e : ResumeError)
       → IsWrongBy image.released played.steps e → IsFault s image e
@@ -274,7 +276,8 @@ module _ {P V : Type 0} (m : P → Meaning V) where
       → MovesOn (m mid.program) (ReleasesOne output.0 output.1 true) mid new
       → MovedTo m (ReleasesAll (take (i + 1) outputs)) old new
   releases_more outputs i d output less is old mid new a b =
-      moved_more (ReleasesAll (take i outputs)) (ReleasesOne output.0 output.1 true) (ReleasesAll (take (i + 1) outputs))
+      moved_more (ReleasesAll (take i outputs)) (ReleasesOne output.0 output.1 true) (ReleasesAll (take (i + 1)
+      outputs))
       old mid new (λ s w here next x y r q fed epoch past h. on s w here next r q fed epoch past h) a b
     where
       longer : take (i + 1) outputs ≡ take i outputs ++ output ∷ []
@@ -331,7 +334,8 @@ module _ {P V : Type 0} (m : P → Meaning V) where
       → MovesOn (m old.program) (Builds image) old new
   builds image many old a b c new count p q r z =
       chain (BuildsTo image) (ReleasesAll image.released) (Builds image) old c new
-      (λ s w here next x y k l played h. l image.fed image.epoch played.steps (k played h)) (builds_to image many old a b c count p q r)
+      (λ s w here next x y k l played h. l image.fed image.epoch played.steps (k played h)) (builds_to image many old
+      a b c count p q r)
       z
 
   -- what an error says while it is built

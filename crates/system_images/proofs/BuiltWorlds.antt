@@ -24,7 +24,8 @@ use Rattle.recovery_world.specs.declared.event.Event.TheVariants as event
 use Rattle.recovery_world.specs.declared.event.Outcome.{Outcome}
 use Rattle.recovery_world.specs.declared.event.Outcome.TheVariants as outcome
 use Rattle.recovery_world.specs.World.{Setting, Sent, World, opening, inputs_fed}
-use Rattle.recovery_world.specs.Events.{HasArrived, HasNumber, IsAmong, IsOutputOf, IsPartOf, MayGo, On, Parts as Parted}
+use Rattle.recovery_world.specs.Events.{HasArrived, HasNumber, IsAmong, IsOutputOf, IsPartOf, MayGo, On}
+use Rattle.recovery_world.specs.Events.{Parts as Parted}
 use Rattle.recovery_world.specs.Events.{MakesMove, OnStep, Releases, Tells, TellsHand}
 use Rattle.random_words.specs.Words.{word_of}
 use Rattle.recovery_world.specs.Files.{sent_names}
@@ -276,7 +277,8 @@ stored_now {V} s w mid next to other freed (inr a, f) (inr (copy, is, to_is, rel
     none : (freed ≡ []) × (rel.stay ≡ [])
     none = none_parted _ mid.waiting freed rel.stay (ap (λ (z : World V). z.waiting) a.2 ∙ h.waiting) rel.parts
 
-    not_there : (o : Sent) (l : List Sent) → sent_names l ≡ [] → IsAmong o (l ++ []) → SendsAfter past o.emission o.after
+    not_there : (o : Sent) (l : List Sent) → sent_names l ≡ [] → IsAmong o (l ++ []) → SendsAfter past o.emission
+        o.after
     not_there o [] is i = absurd i
     not_there o (x ∷ l) is i = absurd (cc)
 

@@ -1,5 +1,6 @@
 -- How far a list of moves can be made, and what an image is judged to be by it.
-use Rattle.std.proofs.Common.{◌≡◌, ℕ, zero, suc, ◌+◌, ◌-◌, ◌*◌, ◌≤◌, ◌<◌, ◌⊎◌, List, [], ◌∷◌, ◌++◌, length, refl, sym, ap}
+use Rattle.std.proofs.Common.{◌≡◌, ℕ, zero, suc, ◌+◌, ◌-◌, ◌*◌, ◌≤◌, ◌<◌, ◌⊎◌, List, [], ◌∷◌, ◌++◌, length, refl, sym}
+use Rattle.std.proofs.Common.{ap}
 use Rattle.std.proofs.Common.{◌∙◌, subst, inl, inr, arith, Option, Some, None, Bool, true, false, drop, take, get_or}
 use Rattle.std.proofs.Common.{Result, Ok, Err, append_assoc, append-nil}
 use Rattle.std.specs.Prelude.{◌^◌, ◌/◌, ◌%◌, ◌&&◌, min, nat_eq, nat_lt, option_to_list, reverse}
@@ -16,7 +17,8 @@ use Rattle.plain_machine.specs.declared.plain_move.PlayCause.{PlayCause}
 use Rattle.plain_machine.specs.declared.plain_move.PlayCause.TheVariants.{NoSuchThread}
 use Rattle.plain_machine.specs.declared.plain_move.PlayFault.{PlayFault}
 use Rattle.plain_machine.specs.Program.{Meaning}
-use Rattle.plain_machine.specs.History.{Act, Took, Did, Emitted, Ended, Step, and_moves, emissions, numbered, plain_move}
+use Rattle.plain_machine.specs.History.{Act, Took, Did, Emitted, Ended, Step, and_moves, emissions, numbered}
+use Rattle.plain_machine.specs.History.{plain_move}
 use Rattle.plain_machine.specs.History.{play, sent_more, sent_of}
 use Rattle.plain_machine.proofs.PlayedLists.{stuck}
 use Rattle.box_program.specs.Hands.{IsInputAfter}
@@ -204,7 +206,8 @@ module _ {V : Type 0} (m : Meaning V) (inputs : ℕ → List Packet) (threads : 
       tails : made ++ rest ≡ other ++ left
       tails = cc
 
-      other_on : and_moves m inputs threads (numbered (length past) (plain_move m inputs threads past x)) other ≡ Ok ends
+      other_on : and_moves m inputs threads (numbered (length past) (plain_move m inputs threads past x)) other ≡ Ok
+          ends
       other_on = subst (λ (z : PlainMove). and_moves m inputs threads
           (numbered (length past) (plain_move m inputs threads past z)) other ≡ Ok ends) (sym heads) q
 

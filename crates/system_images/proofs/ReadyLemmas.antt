@@ -20,7 +20,8 @@ use Rattle.master_core.proofs.HeldEntries.{at_held}
 use Rattle.plain_text.specs.declared.packet.Packet.{Packet}
 use Rattle.plain_machine.specs.Program.{Meaning, IsLawful}
 use Rattle.plain_machine.specs.Machine.{Effect}
-use Rattle.plain_machine.specs.History.{Act, Took, Did, Emitted, Ended, Step, act_of, log_of, log_more, sent_of, outputs}
+use Rattle.plain_machine.specs.History.{Act, Took, Did, Emitted, Ended, Step, act_of, log_of, log_more, sent_of}
+use Rattle.plain_machine.specs.History.{outputs}
 use Rattle.plain_machine.specs.declared.emission.Emission.{Emission}
 use Rattle.plain_machine.specs.History.{moves_of, sent_more, IsHistory}
 use Rattle.plain_machine.specs.Agree.{SendsAfter}
@@ -230,7 +231,8 @@ module _ {P V : Type 0} (m : Meaning V) (fits : ℕ → V → Type 0) (lawful : 
       go : (made < number) ⊎ (number ≤ made) → number ≤ entries t (more ++ past)
       go (inr k) = let sum = both t in omega (arith, k, counts, sum)
       go (inl k) =
-          let i = st.guide.only (plain_entry there.0) (at_held y.guide (plain_entry there.0) t number there.0 is refl) in
+          let i = st.guide.only (plain_entry there.0) (at_held y.guide (plain_entry there.0) t number there.0 is
+          refl) in
           let same : entries there.0.thread past ≡ entries t past = ap (λ (u : ℕ). entries u past) of.0 in
           let num = of.1 in
           let come = (st.sound.firm.to_come (plain_entry there.0)).1 (
@@ -413,7 +415,8 @@ module _ {P V : Type 0} (m : Meaning V) (s : Setting V) (w : World V) (y : Parts
           st.sound.firm.legal low.1 many
 
       kept_there : Keeps (log_of w.past) k.before
-      kept_there e j = go (in_either e st.sound.firm.more (log_of w.past) (known_here s w st.sound.firm e (k.known e j)))
+      kept_there e j = go (in_either e st.sound.firm.more (log_of w.past) (known_here s w st.sound.firm e (k.known e
+          j)))
         where
           go : IsIn e st.sound.firm.more ⊎ IsIn e (log_of w.past) → IsIn e (log_of w.past)
           go (inl come) = absurd (none_to_come e come)

@@ -263,7 +263,8 @@ module _ {P V : Type 0} (m : Meaning V) (s : Setting V) (image : Image) (here : 
           λ k. absurd (none_in e here.held h.held ((st.logger.held e).0 k).0),
           λ k. absurd (k.1 (past_stored e (rest.held e k.0))),
         );
-        waiting = subst (λ (l : List Sent). AreOutputs (log_of w.past) y.logger.waiting l) (h.waiting ∙ sym rest.waiting)
+        waiting = subst (λ (l : List Sent). AreOutputs (log_of w.past) y.logger.waiting l) (h.waiting ∙ sym
+            rest.waiting)
             (subst (λ (l : List (Step V)). AreOutputs (log_of l) y.logger.waiting here.waiting) past st.logger.waiting);
         released = λ t n. (
           λ k. same_number t n here.released w.released names ((st.logger.released t n).0 k),

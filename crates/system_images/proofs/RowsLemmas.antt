@@ -121,7 +121,8 @@ rows_next : (epoch : ℕ) (x : EndedEpoch) (t threads : ℕ) → t < threads
     ∷ rows_of epoch x (t + 1) (threads - (t + 1))
 rows_next epoch x t threads less = ap (λ k. rows_of epoch x t k) (less_one t threads less)
 
-pub added_none : (counts : List Counts) (threads epoch : ℕ) (rows : List Ended) → AddedTo counts threads epoch 0 rows rows
+pub added_none : (counts : List Counts) (threads epoch : ℕ) (rows : List Ended) → AddedTo counts threads epoch 0 rows
+    rows
 added_none counts threads epoch rows x are = ap (λ k. rows ++ rows_of epoch x 0 k) (omega arith)
 
 pub added_more : (counts : List Counts) (threads epoch t : ℕ) (old rows new : List Ended) (c : Counts) → t < threads
@@ -399,7 +400,14 @@ rows_there threads (y ∷ epochs) e x low high is =
             (let q : suc (length epochs - e) ≡ length (y ∷ epochs) - e = omega (arith, less) in q) ∙ is)
 
 pub counted_none : (threads many : ℕ) (rows : List Ended) → CountedTo threads many rows 0 []
-counted_none threads many rows = record { long = refl; each = λ epochs is all e x low high at. absurd (omega (arith, low, high)) }
+counted_none threads many rows = record {
+  long = refl;
+  each = λ epochs is all e x low high at. absurd (omega (
+    arith,
+    low,
+    high,
+  ));
+}
 
 pub counted_more : (threads many i : ℕ) (rows : List Ended) (ended new : List (List Counts)) (counts : List Counts)
     → i < many → new ≡ ended ++ counts ∷ []
