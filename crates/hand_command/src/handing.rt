@@ -16,7 +16,7 @@ ghost use Rattle.hand_command.specs.Handing.{EndsHand, WritesImage};
 use crate::error::{HandError, handed};
 use box_program::Program;
 use handover::{Image, put_image};
-use handover_world::{ready_worlds_come_to_rest, reached_worlds_are_counted};
+use handover_world::{reached_worlds_are_counted, ready_worlds_come_to_rest};
 use output_files::{OutputError, write_lines};
 use plain_text::{Bytes, NoMemory};
 use recovery_core::System;

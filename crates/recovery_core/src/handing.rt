@@ -58,12 +58,12 @@ impl<P: Program> System<P> {
               seed = seed;
             }) image.now error }
         ensures no_fault { IfOk result (λ y. HasNoFault (record {
-              meaning = P.meaning program;
-              threads = threads;
-              fractions = unit;
-              packets = packets;
-              seed = seed;
-            }) image.now) }
+          meaning = P.meaning program;
+          threads = threads;
+          fractions = unit;
+          packets = packets;
+          seed = seed;
+        }) image.now) }
         ensures stands { IfOk result (λ y. (w : World P.Value)
             → Sound (record {
               meaning = P.meaning program;

@@ -35,7 +35,7 @@ module _ {P V : Type 0} (m : Meaning V) (s : Setting V) (from : Point V) (names 
   pub still_begun : HasBegunFrom s from names events a b
   still_begun =
       let h = gathered_begun (writes_of names s.fractions (from.replies
-          ++ come.replies)) [] lines a b come.gathered in (
+      ++ come.replies)) [] lines a b come.gathered in (
         writes_of names s.fractions (from.replies ++ come.replies),
         inl (record {
           before = events;
@@ -80,11 +80,11 @@ module _ {P V : Type 0} (m : Meaning V) (s : Setting V) (from : Point V) (names 
         here =
             subst (λ (l : List ℕ).
             Writes r (writes_of names s.fractions (from.replies ++ come.replies) ++ closing_writes names
-                (moves_made ends.steps) l) a e)
+            (moves_made ends.steps) l) a e)
             (line_is ∙ counts)
             (subst (λ (l : List ℕ).
             Writes r (writes_of names s.fractions (from.replies ++ come.replies) ++
-                (Appends names.schedule l ∷ Reports line ∷ [])) a e)
+            (Appends names.schedule l ∷ Reports line ∷ [])) a e)
             (text_is ∙ ap schedule_text ends.schedule) h)
 
         go : (r : Result ⊤ OutputError)

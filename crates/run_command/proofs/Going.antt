@@ -154,7 +154,7 @@ module _ {P V : Type 0} (m : Meaning V) (s : Setting V) (from : Point V) (names 
           a c
       here = subst (λ (l : List Packet).
           Writes w (writes_of names s.fractions (from.replies ++ come.replies)
-              ++ release_writes names.released l) a c) came.2 written
+          ++ release_writes names.released l) a c) came.2 written
 
       until : WritesUntilFrom s from names (events ++ ev ∷ []) limit
           (writes_of names s.fractions (from.replies ++ come.replies) ++ release_writes names.released

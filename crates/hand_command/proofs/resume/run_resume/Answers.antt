@@ -14,8 +14,12 @@ pub run_from-requires-clause-somewhere : goal.run_from-requires-clause-somewhere
 run_from-requires-clause-somewhere g c κs within =
     let is = c.in_ok-system.ensures in
     let s = setting_of (g.P.Program.meaning c.args.program) c.args.run in
-    let handed : IsHandedOver s is.some.0 c.args.image.now = record { sound = is.some.1; rest = is.some.2; image_is =
-        is.some.3 } in
+    let handed : IsHandedOver s is.some.0 c.args.image.now = record {
+      sound = is.some.1;
+      rest = is.some.2;
+      image_is =
+          is.some.3;
+    } in
     somewhere_same _ _ c.in_ok-system.system (ap g.P.Program.meaning (sym is.program)) (
       s,
       is.some.0,

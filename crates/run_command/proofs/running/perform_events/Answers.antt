@@ -40,7 +40,7 @@ returns-in_err-perform_event-clause-shows g c p h s from names before is come =
     let low : c.loop-event.event-index < length c.args.events.now = omega arith in
     let e : c.from_residual.result ≡ Err c.in_err-perform_event.field-0.0 = search rules in
     rw e (goes_longer c.in_err-perform_event.field-0.0 _ _ s from names _ _ c.args.events.now
-        c.perform_event.new.system _
+    c.perform_event.new.system _
     c.perform_event.new.lines _ before _
     (split_here c.args.events.now c.loop-event.event-index _ low
     (same_item c.args.events.now c.loop-event.event-index _ low))
