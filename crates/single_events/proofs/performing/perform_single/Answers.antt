@@ -1,8 +1,10 @@
-use Rattle.std.proofs.Common.{◌≡◌, Err, sym, subst}
+use Rattle.std.proofs.Common.{◌≡◌, Err, false, refl, sym, ◌∙◌, subst}
 use Rattle.std.proofs.lemmas.Result.{err_from_is_err_and}
 use Rattle.recovery_world.specs.declared.event.Event.TheVariants as event
+use Rattle.recovery_world.specs.declared.event.Outcome.TheVariants as outcome
 use Rattle.event_replies.specs.declared.reply.Stop.TheVariants as stop
 use Rattle.system_parts.specs.Performing.{MovesOn, StopsAt, Releasing, Replies, WouldPass}
+use Rattle.single_events.specs.Single.{IsSingle}
 use Rattle.single_events.proofs.ReplyLemmas.{comes_to, looks_to, passes_none}
 use Rattle.single_events.proofs.performing.perform_single.Goals as goal
 
@@ -105,3 +107,12 @@ returns-in_ok-recover-in-Recover-clause-on g c =
     c.recover.new.core) (sym c.in-Recover.is)
     (comes_to m event.Recover c.in_ok-recover-in-Recover.field-0 c.only-in-Recover.result c.args.out.now c.args.core.now
     c.recover.new.core tt c.only-in-Recover.ensures c.in_ok-recover-in-Recover.ensures)
+
+pub returns-in-Flow-clause-on : goal.returns-in-Flow-clause-on
+returns-in-Flow-clause-on g c =
+    let m = g.P.Program.meaning c.args.core.now.program in
+    let down : c.args.core.now.up ≡ false = subst (IsSingle c.args.core.now.up) c.in-Flow.is c.requires.single in
+    subst (λ e. MovesOn m (Releasing c.args.out.now c.args.out.now (Replies e c.only-in-Flow.result)) c.args.core.now
+    c.args.core.now) (sym c.in-Flow.is)
+    (looks_to m (event.Flow c.in-Flow.field-0) outcome.Down c.only-in-Flow.result c.args.out.now c.args.core.now tt
+    c.only-in-Flow.ensures (λ s w st. ((sym st.master.up ∙ down, refl, refl, refl), st.within)))
