@@ -57,6 +57,7 @@ answers_none healthy may words status old new none = record {
   done = λ e. if_none words _ none;
   headline = λ e. if_none words _ none;
   limit = λ limit e. if_none words _ none;
+  unready = λ unready e. if_none words _ none;
   in_order = if_none words _ none;
   refused = if_none words _ none;
   others = if_none words _ none;

@@ -48,24 +48,28 @@ fn has_outputs(line: &[Text]) -> bool {
         return false;
     };
     match command.as_str() {
-        "run" | "drill" => line.len() == 6,
-        "live" => line.len() == 7,
+        "run" | "drill" | "hand" => line.len() == 6,
+        "live" | "resume" => line.len() == 7,
         "play" | "trace" | "picture" => line.len() == 5,
         "chain" => line.len() == 9,
         _ => false,
     }
 }
 
-/// How many words stand behind the command and before its outputs: four of `chain`, and three of each other that has
-/// inputs and outputs.
+/// How many words stand behind the command and before its outputs: four of `chain` and of `resume`, and three of each
+/// other that has inputs and outputs.
 pub(crate) fn words_before_outputs(line: &[Text]) -> usize {
-    if is_chain(line) { 4 } else { 3 }
+    if is_command(line, "chain") || is_command(line, "resume") {
+        4
+    } else {
+        3
+    }
 }
 
-/// Whether the command is `chain`, of which a second box stands behind the first.
-pub(crate) fn is_chain(line: &[Text]) -> bool {
+/// Whether the command is this one.
+pub(crate) fn is_command(line: &[Text], name: &str) -> bool {
     match line.first() {
-        Some(command) => command.as_str() == "chain",
+        Some(command) => command.as_str() == name,
         None => false,
     }
 }
@@ -76,8 +80,8 @@ pub(crate) fn count_inputs(line: &[Text]) -> usize {
         return 0;
     };
     match command.as_str() {
-        "run" | "live" | "play" | "trace" | "picture" => 3,
-        "check" | "chain" => 4,
+        "run" | "live" | "play" | "trace" | "picture" | "hand" => 3,
+        "check" | "chain" | "resume" => 4,
         "drill" => 2,
         "watch" => 1,
         _ => 0,

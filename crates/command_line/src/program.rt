@@ -16,7 +16,7 @@ use world_real::{ProgressLine, RealClock};
 const CLEAR_LINE: &str = "\x1b[K";
 
 /// The program: does what its arguments ask for over the files of the system, by its clock and on
-/// its threads, tells what was not done, and ends with the number of the status, which is 7 at
+/// its threads, tells what was not done, and ends with the number of the status, which is 9 at
 /// most. Standard error gets a line of progress, where it is a terminal.
 #[tactic(auto, using(crate::proofs::ExitCodes::most_exit_code))]
 pub fn run_program<
@@ -33,7 +33,7 @@ pub fn run_program<
         + Drop,
     E: Eprint + IsTerminal,
 >(rt: &R, errors: &E) -> ExitCode
-    ensures number { exit_status result ≤ 7 }
+    ensures number { exit_status result ≤ 9 }
 {
     let Ok(own) = rt.clone() else {
         return exit_of(tell(rt, Status::NoMemory));

@@ -6,7 +6,8 @@ mod files;
 mod lines;
 mod nearest;
 
-use crate::names::{count_inputs, is_chain, line_start, one_file, words_before_outputs};
+use crate::names::{count_inputs, is_command, line_start, one_file, words_before_outputs};
+use hand_faults::{HandCause, HandFault};
 use job_commands::{InputFault, Status};
 use plain_text::{LineCause, LineFault, Text};
 use std::io;
@@ -104,15 +105,50 @@ fn tell_fault<R: AllocGlobal + Files + Eprint>(
         InputFault::NgCapture(fault) => {
             captures::tell_pcapng(rt, input_name(words, boxes + 1), fault)
         }
+        InputFault::Handover(fault) => tell_line(rt, input_name(words, 3), line_fault(fault)),
         InputFault::Script(fault) | InputFault::Plan(fault) | InputFault::Schedule(fault) => {
-            match input_name(words, boxes + 2) {
-                Some(name) => lines::tell_line(rt, name, fault),
-                None => Ok(()),
-            }
+            let place = words_before_script(words, boxes) + 1;
+            tell_line(rt, input_name(words, place), fault)
         }
         InputFault::Moves(_) => Ok(()),
         InputFault::Released(fault) => captures::tell_pcap(rt, input_name(words, 4), fault),
         InputFault::NgReleased(fault) => captures::tell_pcapng(rt, input_name(words, 4), fault),
+    }
+}
+
+/// What stands in a line of an input.
+fn tell_line<R: AllocGlobal + Files + Eprint>(
+    rt: &R,
+    name: Option<&Text>,
+    fault: LineFault,
+) -> io::Result<()> {
+    match name {
+        Some(name) => lines::tell_line(rt, name, fault),
+        None => Ok(()),
+    }
+}
+
+/// The fault of a text of a handover as one of a line. A line that is right by its grammar has no unknown word.
+fn line_fault(fault: HandFault) -> LineFault {
+    let cause = match fault.cause {
+        HandCause::Line(cause) => cause,
+        HandCause::Count | HandCause::Move(_) | HandCause::Released => LineCause::OutOfRange,
+    };
+    LineFault {
+        line: fault.line,
+        cause,
+    }
+}
+
+/// How many inputs stand before the script, or what stands in its place: box files, the capture, and of `resume` the
+/// text of the handover.
+fn words_before_script(words: &[Text], boxes: usize) -> usize
+    requires { boxes ≤ 2 }
+    ensures { result ≤ 4 }
+{
+    match words.get(line_start(words)..) {
+        Some(line) if is_command(line, "resume") => boxes + 2,
+        _ => boxes + 1,
     }
 }
 
@@ -134,7 +170,7 @@ fn count_boxes(words: &[Text]) -> usize
     ensures { result ≤ 2 }
 {
     match words.get(line_start(words)..) {
-        Some(line) if is_chain(line) => 2,
+        Some(line) if is_command(line, "chain") => 2,
         _ => 1,
     }
 }

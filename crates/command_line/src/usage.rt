@@ -69,6 +69,20 @@ in order of release.
   SCHEDULE1, SCHEDULE2
             text of the moves of the one and of the other, written
 
+ftmb hand BOX CAPTURE SCRIPT RELEASED HANDOVER
+
+Performs a script as `run` does, and hands the box over: a snapshot is stored,
+the master crashes and recovers, and its whole state is written as a text.
+
+  HANDOVER  text of the state, from which another process goes on, written
+
+ftmb resume BOX CAPTURE HANDOVER SCRIPT RELEASED SCHEDULE
+
+Goes on from a handover, with the same box and capture, by a further script.
+Nothing that was released before is released again.
+
+  HANDOVER  text of the state, read
+
 ftmb tap NAME .. run BOX CAPTURE SCRIPT RELEASED SCHEDULE
 ftmb tap NAME .. live BOX CAPTURE PLAN RELEASED SCHEDULE SCRIPT
 
@@ -106,7 +120,8 @@ for QUOTA packets at most, as they are read.
 The report is written on standard output.
 
 Exit status: 0 done, 1 refuted, 2 bad words, 3 read fault, 4 write fault, 5 no memory,
-6 bad input, 7 too large. What is not done is told on standard error.
+6 bad input, 7 too large, 9 not ready for a handover. What is not done is told on
+standard error.
 ";
 
 /// The text that `--help` prints on standard output.

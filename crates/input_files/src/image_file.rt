@@ -1,7 +1,10 @@
-ghost use Rattle.std.specs.Prelude.{◌≡◌, ◌≢◌, ◌<◌, ◌-◌, ◌^◌, ◌∷◌, [], Err, OnOk, IsErrOf, List, ℕ};
+ghost use Rattle.std.specs.Prelude.{◌≡◌, ◌≢◌, ◌<◌, ◌-◌, ◌^◌, ◌∷◌, [], Err, IfOk, OnOk, IsErrOf};
+ghost use Rattle.std.specs.Prelude.{List};
+ghost use Rattle.std.specs.Prelude.{ℕ};
 ghost use Rattle.world_io.specs.declared.beginning.Front.TheVariants as front_of;
 ghost use Rattle.world_io.specs.Stream.{Rose};
 ghost use Rattle.world_io.specs.World.{Start};
+ghost use Rattle.handover.specs.Images.{IsImage};
 ghost use Rattle.input_files.specs.Answers.{SaysImage};
 ghost use Rattle.input_files.specs.Files.{KeepsOutputs, OnlyReads, OpensAll};
 ghost use Rattle.input_files.specs.Judging.{JudgesImage};
@@ -38,6 +41,7 @@ pub fn read_image_file<W: World>(
         (OpensAll (name.now ∷ []) (W.ledger world.old) (W.ledger world.new)) }
     ensures cause { IsErrOf result InputError.ReadFault
         → Rose (W.ledger world.old).read_faults (W.ledger world.new).read_faults }
+    ensures image { IfOk result (λ file. IsImage file.text file.image) }
     ensures judged { (p : Start) → W.honest p world.new
         → JudgesImage (W.healthy world.old) name.now result (W.shows p world.old) }
     ensures keeps { (p : Start) → W.honest p world.new
@@ -53,6 +57,7 @@ pub fn read_image_file<W: World>(
 /// Judges a whole text of a handover.
 fn judge_all(alloc: Global, text: Bytes) -> Result<ImageFile, InputError<LineFault>>
     ensures says { (bytes : List ℕ) → IsFrontOf (front_of.All text) bytes → SaysImage bytes result }
+    ensures image { IfOk result (λ file. IsImage file.text file.image) }
     ensures quiet { ¬ IsErrOf result InputError.ReadFault }
 {
     match read_image(alloc, text.as_slice()) {

@@ -16,3 +16,5 @@ pub mod ThreeFiles
 pub mod LiveFiles
 pub mod ChainFiles
 pub mod ChainFaults
+pub mod ResumeFiles
+pub mod ResumeFaults

@@ -101,8 +101,10 @@ module _ (healthy : Type 0) (names : RunNames) (shown : Shown) where
   verdict (status.BadInput (input.Moves fault)) decided h = absurd h
   verdict (status.BadInput (input.Released fault)) decided h = absurd h
   verdict (status.BadInput (input.NgReleased fault)) decided h = absurd h
+  verdict (status.BadInput (input.Handover fault)) decided h = absurd h
   verdict (status.TooLarge limit) decided (inl h) = too_large limit h
   verdict (status.TooLarge limit) decided (inr (inputs, asked, stops)) = OfLimit inputs asked limit stops refl
+  verdict (status.Unready unready) decided h = absurd h
 
   box_one : (a b : Result BoxConf (InputError LineFault)) → FileDecides healthy a → FileDecides healthy b
       → JudgesBox healthy names.box_file a shown → JudgesBox healthy names.box_file b shown → a ≡ b
@@ -218,6 +220,7 @@ module _ (healthy : Type 0) (names : RunNames) (shown : Shown) where
   run_completes ok accepted status.Done h = inl refl
   run_completes ok accepted (status.Refuted refutation) h = absurd h
   run_completes ok accepted status.BadWords h = absurd h
+  run_completes ok accepted (status.Unready unready) h = absurd h
   run_completes ok accepted status.WriteFault h = absurd (h.0 ok)
   run_completes ok (x, a, within) status.ReadFault h = absurd (accepts_no_other x a (missing (h ok) ok))
     where

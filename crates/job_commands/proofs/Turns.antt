@@ -6,7 +6,8 @@ use Rattle.input_files.specs.declared.errors.InputError.TheVariants as error
 use Rattle.input_files.specs.Judging.{Judges as JudgesFile, IsDecided as FileDecides}
 use Rattle.job_commands.specs.declared.status.Status.{Status}
 use Rattle.job_commands.specs.Judging.{IsDecided}
-use Rattle.job_commands.specs.Status.{of_box_error, of_capture_error, of_plan_error, of_schedule_error}
+use Rattle.job_commands.specs.Status.{of_box_error, of_capture_error, of_image_error, of_plan_error}
+use Rattle.job_commands.specs.Status.{of_schedule_error}
 use Rattle.job_commands.specs.Status.{of_released_error, of_script_error, of_second_box_error}
 use Rattle.job_commands.specs.Turns.{InTurn}
 
@@ -90,6 +91,12 @@ plan_decides healthy (error.Fault fault) d = tt
 plan_decides healthy (error.TooLarge limit) d = tt
 plan_decides healthy error.ReadFault d = d.1.0 refl
 plan_decides healthy error.NoMemory d = absurd (d.0 refl)
+
+pub image_decides : (healthy : Type 0) → Decides healthy of_image_error
+image_decides healthy (error.Fault fault) d = tt
+image_decides healthy (error.TooLarge limit) d = tt
+image_decides healthy error.ReadFault d = d.1.0 refl
+image_decides healthy error.NoMemory d = absurd (d.0 refl)
 
 pub schedule_decides : (healthy : Type 0) → Decides healthy of_schedule_error
 schedule_decides healthy (error.Fault fault) d = tt

@@ -122,4 +122,6 @@ SaysOfChainFiles healthy names (status.BadInput (input.Schedule fault)) shown = 
 SaysOfChainFiles healthy names (status.BadInput (input.Moves fault)) shown = ⊥
 SaysOfChainFiles healthy names (status.BadInput (input.Released fault)) shown = ⊥
 SaysOfChainFiles healthy names (status.BadInput (input.NgReleased fault)) shown = ⊥
+SaysOfChainFiles healthy names (status.BadInput (input.Handover fault)) shown = ⊥
 SaysOfChainFiles healthy names (status.TooLarge limit) shown = OneIsTooLarge names limit shown
+SaysOfChainFiles healthy names (status.Unready unready) shown = ⊥

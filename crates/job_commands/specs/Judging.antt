@@ -36,9 +36,11 @@ Judges healthy names (status.BadInput (input.Schedule fault)) shown = ⊥
 Judges healthy names (status.BadInput (input.Moves fault)) shown = ⊥
 Judges healthy names (status.BadInput (input.Released fault)) shown = ⊥
 Judges healthy names (status.BadInput (input.NgReleased fault)) shown = ⊥
+Judges healthy names (status.BadInput (input.Handover fault)) shown = ⊥
 Judges healthy names (status.TooLarge limit) shown =
     FirstIsTooLarge names.box_file names.capture (ScriptTooLarge names.script limit shown) limit shown
     ⊎ ((inputs : Inputs) × AcceptsInputs names inputs shown × StopsRun inputs limit)
+Judges healthy names (status.Unready unready) shown = ⊥
 
 -- what reading all inputs answers: they are accepted, or the status that ends the command
 abbrev pub JudgesInputs : Type 0 → RunNames → Result Inputs Status → Shown → Type 0

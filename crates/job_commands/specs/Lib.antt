@@ -9,4 +9,6 @@ pub mod Schedules
 pub mod Live
 pub mod Chain
 pub mod ChainWords
+pub mod HandWords
+pub mod Resume
 pub mod Checked

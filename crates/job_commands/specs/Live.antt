@@ -62,5 +62,7 @@ SaysOfFiles healthy names (status.BadInput (input.Schedule fault)) shown = ⊥
 SaysOfFiles healthy names (status.BadInput (input.Moves fault)) shown = ⊥
 SaysOfFiles healthy names (status.BadInput (input.Released fault)) shown = ⊥
 SaysOfFiles healthy names (status.BadInput (input.NgReleased fault)) shown = ⊥
+SaysOfFiles healthy names (status.BadInput (input.Handover fault)) shown = ⊥
 SaysOfFiles healthy names (status.TooLarge limit) shown =
     FirstIsTooLarge names.box_file names.capture (PlanTooLarge names.plan limit shown) limit shown
+SaysOfFiles healthy names (status.Unready unready) shown = ⊥

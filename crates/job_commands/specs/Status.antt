@@ -13,14 +13,18 @@ use Rattle.run_writes.specs.declared.error.RunError.{RunError}
 use Rattle.run_writes.specs.declared.error.RunError.TheVariants as of_run
 use Rattle.plain_machine.specs.declared.plain_move.PlayFault.{PlayFault}
 use Rattle.schedule_check.specs.declared.checking.Refutation.{Refutation}
+use Rattle.hand_faults.specs.declared.fault.HandCause.TheVariants as hand_cause
+use Rattle.hand_command.specs.declared.error.HandError.{HandError}
+use Rattle.hand_command.specs.declared.error.HandError.TheVariants as of_hand
 use Rattle.schedule_commands.specs.declared.error.ScheduleError.{ScheduleError}
 use Rattle.schedule_commands.specs.declared.error.ScheduleError.TheVariants as of_schedule
 use Rattle.job_commands.specs.declared.status.InputFault.{InputFault}
 use Rattle.job_commands.specs.declared.status.InputFault.TheVariants.{BoxFile, SecondBox, Capture, NgCapture, Script}
 use Rattle.job_commands.specs.declared.status.InputFault.TheVariants.{Plan, Schedule, Moves, Released, NgReleased}
+use Rattle.job_commands.specs.declared.status.InputFault.TheVariants.{Handover}
 use Rattle.job_commands.specs.declared.status.Status.{Status}
 use Rattle.job_commands.specs.declared.status.Status.TheVariants.{Done, Refuted, BadWords, ReadFault, WriteFault}
-use Rattle.job_commands.specs.declared.status.Status.TheVariants.{NoMemory, BadInput, TooLarge}
+use Rattle.job_commands.specs.declared.status.Status.TheVariants.{NoMemory, BadInput, TooLarge, Unready}
 
 -- the exit number of the program
 abbrev pub exit_code_of : Status → ℕ
@@ -32,6 +36,7 @@ exit_code_of WriteFault = 4
 exit_code_of NoMemory = 5
 exit_code_of (BadInput fault) = 6
 exit_code_of (TooLarge limit) = 7
+exit_code_of (Unready unready) = 9
 
 -- the stages of a command: its words are read; its inputs are read and judged; its outputs are written
 pub data Stage : Type 0 where
@@ -58,6 +63,7 @@ stage_of WriteFault = AtOutputs
 stage_of NoMemory = AtAnyTime
 stage_of (BadInput fault) = AtInputs
 stage_of (TooLarge limit) = stage_of_limit limit
+stage_of (Unready unready) = AtOutputs
 
 -- An input file could not be read, or what the inputs say is refused. A limit that is passed is none of these: it may
 -- be one of the run.
@@ -70,6 +76,7 @@ IsRefusal WriteFault = ⊥
 IsRefusal NoMemory = ⊥
 IsRefusal (BadInput fault) = Unit {0}
 IsRefusal (TooLarge limit) = ⊥
+IsRefusal (Unready unready) = ⊥
 
 -- the status comes at this stage, or says that memory ran out
 abbrev pub ComesAt : Stage → Status → Type 0
@@ -85,6 +92,7 @@ EndsReading WriteFault = ⊥
 EndsReading NoMemory = Unit {0}
 EndsReading (BadInput fault) = Unit {0}
 EndsReading (TooLarge limit) = Unit {0}
+EndsReading (Unready unready) = ⊥
 
 abbrev pub of_box_error : InputError LineFault → Status
 of_box_error of_input.ReadFault = ReadFault
@@ -109,6 +117,16 @@ of_plan_error of_input.ReadFault = ReadFault
 of_plan_error of_input.NoMemory = NoMemory
 of_plan_error (of_input.TooLarge limit) = TooLarge limit
 of_plan_error (of_input.Fault fault) = BadInput (Plan fault)
+
+-- a line of a handover has a fault
+abbrev pub of_image_fault : LineFault → InputFault
+of_image_fault fault = Handover (record { line = fault.line; cause = hand_cause.Line fault.cause })
+
+abbrev pub of_image_error : InputError LineFault → Status
+of_image_error of_input.ReadFault = ReadFault
+of_image_error of_input.NoMemory = NoMemory
+of_image_error (of_input.TooLarge limit) = TooLarge limit
+of_image_error (of_input.Fault fault) = BadInput (of_image_fault fault)
 
 abbrev pub of_capture_fault : AnyFault → InputFault
 of_capture_fault (any.Capture fault) = Capture fault
@@ -154,6 +172,14 @@ of_run_error of_run.NoMemory = NoMemory
 abbrev pub run_outcome : {A : Type 0} → Result A RunError → Status
 run_outcome (Ok done) = Done
 run_outcome (Err error) = of_run_error error
+
+-- what `hand` comes to
+abbrev pub hand_outcome : {A : Type 0} → Result A HandError → Status
+hand_outcome (Ok done) = Done
+hand_outcome (Err (of_hand.Limit limit)) = TooLarge limit
+hand_outcome (Err of_hand.WriteFault) = WriteFault
+hand_outcome (Err of_hand.NoMemory) = NoMemory
+hand_outcome (Err (of_hand.Unready unready)) = Unready unready
 
 -- what `play` comes to
 abbrev pub play_outcome : {A : Type 0} → Result A (ScheduleError PlayFault) → Status

@@ -12,12 +12,17 @@ use Rattle.plain_machine.specs.declared.plain_move.PlayCause.{PlayCause}
 use Rattle.plain_machine.specs.declared.plain_move.PlayCause.TheVariants as move
 use Rattle.schedule_check.specs.declared.checking.Refutation.{Refutation}
 use Rattle.schedule_check.specs.declared.checking.Refutation.TheVariants as refuted
+use Rattle.handover_world.specs.declared.unready.Unready.{Unready as UnreadyCause}
+use Rattle.handover_world.specs.declared.unready.Unready.TheVariants as unready
+use Rattle.hand_faults.specs.declared.fault.HandCause.{HandCause}
+use Rattle.hand_faults.specs.declared.fault.HandCause.TheVariants as hand
 use Rattle.job_commands.specs.declared.status.InputFault.{InputFault}
 use Rattle.job_commands.specs.declared.status.InputFault.TheVariants.{BoxFile, SecondBox, Capture, NgCapture, Script}
 use Rattle.job_commands.specs.declared.status.InputFault.TheVariants.{Plan, Schedule, Moves, Released, NgReleased}
+use Rattle.job_commands.specs.declared.status.InputFault.TheVariants.{Handover}
 use Rattle.job_commands.specs.declared.status.Status.{Status}
 use Rattle.job_commands.specs.declared.status.Status.TheVariants.{Done, Refuted, BadWords, ReadFault, WriteFault}
-use Rattle.job_commands.specs.declared.status.Status.TheVariants.{NoMemory, BadInput, TooLarge}
+use Rattle.job_commands.specs.declared.status.Status.TheVariants.{NoMemory, BadInput, TooLarge, Unready}
 
 abbrev pub cause_text : LineCause → List ℕ
 cause_text line.UnknownWord = codes "unknown word"
@@ -53,6 +58,12 @@ move_cause_text move.NothingToTake = codes "nothing to take"
 move_cause_text move.MissingAnswer = codes "missing answer"
 move_cause_text move.UnwantedAnswer = codes "unwanted answer"
 
+abbrev pub hand_cause_text : HandCause → List ℕ
+hand_cause_text (hand.Line cause) = cause_text cause
+hand_cause_text hand.Count = codes "bad count"
+hand_cause_text (hand.Move cause) = move_cause_text cause
+hand_cause_text hand.Released = codes "bad released"
+
 abbrev pub limit_text : Limit → List ℕ
 limit_text File = codes "file"
 limit_text Packets = codes "packets"
@@ -80,6 +91,14 @@ fault_text (Released fault) =
     codes "bad input: released: offset " ++ decimal fault.offset ++ codes ": " ++ capture_cause_text fault.cause
 fault_text (NgReleased fault) =
     codes "bad input: released: offset " ++ decimal fault.offset ++ codes ": " ++ ng_cause_text fault.cause
+fault_text (Handover fault) =
+    codes "bad input: handover: line " ++ decimal fault.line ++ codes ": " ++ hand_cause_text fault.cause
+
+-- why a system can't be handed over yet
+abbrev pub unready_text : UnreadyCause → List ℕ
+unready_text unready.Down = codes "unready: down"
+unready_text (unready.Left many) = codes "unready: left " ++ decimal many
+unready_text (unready.Behind many) = codes "unready: behind " ++ decimal many
 
 -- the first illegal move, and why, or the number of the packet
 abbrev pub refutation_text : Refutation → List ℕ
@@ -96,3 +115,4 @@ status_text WriteFault = codes "write fault"
 status_text NoMemory = codes "no memory"
 status_text (BadInput fault) = fault_text fault
 status_text (TooLarge limit) = codes "too large: " ++ limit_text limit
+status_text (Unready cause) = unready_text cause

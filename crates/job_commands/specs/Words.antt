@@ -14,6 +14,8 @@ use Rattle.job_commands.specs.declared.drill_words.DrillWords.{DrillWords}
 use Rattle.job_commands.specs.declared.trace_words.TraceWords.{TraceWords}
 use Rattle.job_commands.specs.declared.picture_words.PictureWords.{PictureWords}
 use Rattle.job_commands.specs.ChainWords.{ChainNames, chain_inputs, chain_names, chain_names_of}
+use Rattle.job_commands.specs.HandWords.{HandNames, ResumeNames, hand_names, hand_names_of, resume_inputs}
+use Rattle.job_commands.specs.HandWords.{resume_names, resume_names_of}
 use Rattle.job_commands.specs.declared.command.Command as command_words
 use Rattle.job_commands.specs.declared.command.Command.TheVariants as words
 
@@ -285,6 +287,16 @@ picture_names (command ∷ box_file ∷ capture ∷ script ∷ picture ∷ []) =
     else None
 picture_names (a ∷ b ∷ c ∷ d ∷ e ∷ f ∷ more) = None
 
+-- the names of a run that hands its system over, as those of a run: the handover stands where that has its schedule
+abbrev pub run_of_hand : HandNames → RunNames
+run_of_hand names = record {
+  box_file = names.box_file;
+  capture = names.capture;
+  script = names.script;
+  released = names.released;
+  schedule = names.handover;
+}
+
 -- a command, with what its words name
 pub data Asked : Type 0 where
   Runs : RunNames → Asked
@@ -296,27 +308,33 @@ pub data Asked : Type 0 where
   Traces : TraceNames → Asked
   Draws : PictureNames → Asked
   Chains : ChainNames → Asked
+  Hands : HandNames → Asked
+  Resumes : ResumeNames → Asked
 
 -- the one command whose names are there; no words are those of two
 abbrev pub one_of : Option RunNames → Option LiveNames → Option MakeNames → Option PlayNames → Option CheckNames
-    → Option DrillNames → Option TraceNames → Option PictureNames → Option ChainNames → Option Asked
-one_of (Some names) live make play check drill trace picture chain = Some (Runs names)
-one_of None (Some names) make play check drill trace picture chain = Some (Lives names)
-one_of None None (Some names) play check drill trace picture chain = Some (Makes names)
-one_of None None None (Some names) check drill trace picture chain = Some (Plays names)
-one_of None None None None (Some names) drill trace picture chain = Some (Checks names)
-one_of None None None None None (Some names) trace picture chain = Some (Drills names)
-one_of None None None None None None (Some names) picture chain = Some (Traces names)
-one_of None None None None None None None (Some names) chain = Some (Draws names)
-one_of None None None None None None None None (Some names) = Some (Chains names)
-one_of None None None None None None None None None = None
+    → Option DrillNames → Option TraceNames → Option PictureNames → Option ChainNames → Option HandNames
+    → Option ResumeNames → Option Asked
+one_of (Some names) live make play check drill trace picture chain hand resume = Some (Runs names)
+one_of None (Some names) make play check drill trace picture chain hand resume = Some (Lives names)
+one_of None None (Some names) play check drill trace picture chain hand resume = Some (Makes names)
+one_of None None None (Some names) check drill trace picture chain hand resume = Some (Plays names)
+one_of None None None None (Some names) drill trace picture chain hand resume = Some (Checks names)
+one_of None None None None None (Some names) trace picture chain hand resume = Some (Drills names)
+one_of None None None None None None (Some names) picture chain hand resume = Some (Traces names)
+one_of None None None None None None None (Some names) chain hand resume = Some (Draws names)
+one_of None None None None None None None None (Some names) hand resume = Some (Chains names)
+one_of None None None None None None None None None (Some names) resume = Some (Hands names)
+one_of None None None None None None None None None None (Some names) = Some (Resumes names)
+one_of None None None None None None None None None None None = None
 
--- the command that words ask for: `run`, `live`, `make`, `play`, `check`, `drill`, `trace`, `picture` or
--- `chain`
+-- the command that words ask for: `run`, `live`, `make`, `play`, `check`, `drill`, `trace`, `picture`, `chain`, `hand`
+-- or `resume`
 abbrev pub asked : List (List ℕ) → Option Asked
 asked words =
     one_of (run_names words) (live_names words) (make_names words) (play_names words) (check_names words)
-    (drill_names words) (trace_names words) (picture_names words) (chain_names words)
+    (drill_names words) (trace_names words) (picture_names words) (chain_names words) (hand_names words)
+    (resume_names words)
 
 -- where the words ask for a command, this is so of it
 abbrev pub IfAsks : List (List ℕ) → (Asked → Type 0) → Type 0
@@ -332,6 +350,8 @@ asked_of (words.Drill w) = Drills (drill_names_of w)
 asked_of (words.Trace w) = Traces (trace_names_of w)
 asked_of (words.Picture w) = Draws (picture_names_of w)
 asked_of (words.Chain w) = Chains (chain_names_of w)
+asked_of (words.Hand w) = Hands (hand_names_of w)
+asked_of (words.Resume w) = Resumes (resume_names_of w)
 
 -- The names of the input files of a command, in the order of its words, which is the order in which they are read
 
@@ -350,6 +370,9 @@ check_inputs names = schedule_inputs names.files ++ names.released ∷ []
 abbrev pub drill_inputs : DrillNames → List (List ℕ)
 drill_inputs names = names.box_file ∷ names.capture ∷ []
 
+abbrev pub hand_inputs : HandNames → List (List ℕ)
+hand_inputs names = run_inputs (run_of_hand names)
+
 -- `make` has none
 abbrev pub inputs_of : Asked → List (List ℕ)
 inputs_of (Runs names) = run_inputs names
@@ -361,3 +384,5 @@ inputs_of (Drills names) = drill_inputs names
 inputs_of (Traces names) = run_inputs (traced_run names)
 inputs_of (Draws names) = run_inputs (pictured_run names)
 inputs_of (Chains names) = chain_inputs names
+inputs_of (Hands names) = hand_inputs names
+inputs_of (Resumes names) = resume_inputs names

@@ -2,9 +2,10 @@ ghost use Rattle.std.specs.Prelude.{◌≡◌, MatchOption, None, Some};
 ghost use Rattle.job_commands.specs.Words.{asked, asked_of};
 
 use crate::{
-    ChainWords, CheckWords, DrillWords, LiveWords, MakeWords, PictureWords, PlayWords, RunWords,
-    TraceWords, read_chain_words, read_check_words, read_drill_words, read_live_words,
-    read_make_words, read_picture_words, read_play_words, read_run_words, read_trace_words,
+    ChainWords, CheckWords, DrillWords, HandWords, LiveWords, MakeWords, PictureWords, PlayWords,
+    ResumeWords, RunWords, TraceWords, read_chain_words, read_check_words, read_drill_words,
+    read_hand_words, read_live_words, read_make_words, read_picture_words, read_play_words,
+    read_resume_words, read_run_words, read_trace_words,
 };
 use plain_text::Text;
 
@@ -20,6 +21,8 @@ pub enum Command<'a> {
     Trace(TraceWords<'a>),
     Picture(PictureWords<'a>),
     Chain(ChainWords<'a>),
+    Hand(HandWords<'a>),
+    Resume(ResumeWords<'a>),
 }
 
 /// The command that the words ask for. None where they are no command's.
@@ -51,6 +54,12 @@ pub fn read_command(words: &[Text]) -> Option<Command<'_>>
     if let Some(names) = read_picture_words(words) {
         return Some(Command::Picture(names));
     }
-    let names = read_chain_words(words)?;
-    Some(Command::Chain(names))
+    if let Some(names) = read_chain_words(words) {
+        return Some(Command::Chain(names));
+    }
+    if let Some(names) = read_hand_words(words) {
+        return Some(Command::Hand(names));
+    }
+    let names = read_resume_words(words)?;
+    Some(Command::Resume(names))
 }

@@ -15,6 +15,8 @@ ghost use Rattle.job_commands.specs.declared.status.Status.{Status};
 ghost use Rattle.job_commands.specs.Judging.{Judges, IsDecided};
 ghost use Rattle.job_commands.specs.Chain.{JudgesChainInputs, SaysOfChainFiles};
 ghost use Rattle.job_commands.specs.ChainWords.{ChainNames};
+ghost use Rattle.job_commands.specs.HandWords.{ResumeNames};
+ghost use Rattle.job_commands.specs.Resume.{JudgesResumeInputs, SaysOfResumeFiles};
 ghost use Rattle.job_commands.specs.Live.{JudgesLiveInputs, SaysOfFiles};
 ghost use Rattle.job_commands.specs.Schedules.{JudgesCheck, JudgesPlay};
 ghost use Rattle.run_writes.specs.Run.{HasRun};
@@ -39,8 +41,9 @@ pub fn one_verdict()
         → JudgesCheck (IsTrue healthy) names r shown → s ≡ r }
 {}
 
-/// A status with which reading the inputs of `live` or of `chain` ends says of the files which is the first that is not
-/// accepted, and why; and of those statuses that they decide at most one is true of them.
+/// A status with which reading the inputs of `live`, `chain` or `resume` ends says of the files which is the first that
+/// is not accepted, and why; and of those statuses that they decide at most one is true of them. Those of `hand` are
+/// the inputs of a run.
 pub fn what_refused_inputs_say()
     ensures says { (healthy : Bool) (names : LiveNames) (s : Status) (shown : Shown)
         → JudgesLiveInputs (IsTrue healthy) names (Err s) shown
@@ -56,6 +59,13 @@ pub fn what_refused_inputs_say()
         → IsDecided (IsTrue healthy) s → IsDecided (IsTrue healthy) r
         → JudgesChainInputs (IsTrue healthy) names (Err s) shown
         → JudgesChainInputs (IsTrue healthy) names (Err r) shown → s ≡ r }
+    ensures resume_says { (healthy : Bool) (names : ResumeNames) (s : Status) (shown : Shown)
+        → JudgesResumeInputs (IsTrue healthy) names (λ source events other. ⊥) s shown
+        → SaysOfResumeFiles (IsTrue healthy) names s shown }
+    ensures resume_one { (healthy : Bool) (names : ResumeNames) (s r : Status) (shown : Shown)
+        → IsDecided (IsTrue healthy) s → IsDecided (IsTrue healthy) r
+        → JudgesResumeInputs (IsTrue healthy) names (λ source events other. ⊥) s shown
+        → JudgesResumeInputs (IsTrue healthy) names (λ source events other. ⊥) r shown → s ≡ r }
 {}
 
 /// What `run` leaves is accepted by `check`, with the same box and the same capture: the check of the schedule and the

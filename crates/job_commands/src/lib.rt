@@ -1,5 +1,5 @@
 //! The commands of FTMB beside the top call: their words and statuses, `make`, `play` and `check`, the inputs of `run`,
-//! `trace`, `picture`, `live`, `drill` and `chain`, and the laws.
+//! `trace`, `picture`, `live`, `drill`, `chain`, `hand` and `resume`, and the laws.
 #![tactic(auto)]
 
 mod chain_inputs;
@@ -8,6 +8,7 @@ mod checking;
 mod command;
 mod drill_words;
 mod first_inputs;
+mod hand_words;
 mod inputs;
 mod laws;
 mod live_inputs;
@@ -16,6 +17,8 @@ mod make_words;
 mod making;
 mod picture_words;
 mod playing;
+mod resume_inputs;
+mod resume_words;
 mod run_words;
 mod schedule_inputs;
 mod schedule_words;
@@ -29,6 +32,7 @@ pub use checking::check_released;
 pub use command::{Command, read_command};
 pub use drill_words::{DrillWords, read_drill_words};
 pub use first_inputs::{FirstInputs, read_first_inputs};
+pub use hand_words::{HandWords, read_hand_words};
 pub use inputs::{Inputs, read_inputs};
 pub use laws::{
     inputs_are_of_bytes, one_verdict, pcapng_captures_are_savefiles, what_refused_inputs_say,
@@ -40,9 +44,11 @@ pub use make_words::{MakeWords, read_make_words};
 pub use making::make_capture;
 pub use picture_words::{PictureWords, read_picture_words};
 pub use playing::play_capture;
+pub use resume_inputs::{ResumeSource, read_resume_source, read_script};
+pub use resume_words::{ResumeWords, read_resume_words};
 pub use run_words::{RunWords, read_run_words};
 pub use schedule_inputs::{CheckInputs, ScheduleInputs, read_check_inputs, read_schedule_inputs};
 pub use schedule_words::{CheckWords, PlayWords, ScheduleFiles, read_check_words, read_play_words};
-pub use status::{InputFault, Status, outcome, run_outcome};
+pub use status::{InputFault, Status, hand_outcome, outcome, run_outcome};
 pub use text::StatusText;
 pub use trace_words::{TraceWords, read_trace_words};

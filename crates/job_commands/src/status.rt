@@ -1,11 +1,15 @@
 ghost use Rattle.std.specs.Prelude.{◌≡◌};
 ghost use Rattle.job_commands.specs.Status.{exit_code_of, of_box_error, of_capture_error};
+ghost use Rattle.job_commands.specs.Status.{hand_outcome as hand_outcome_of, of_image_error};
 ghost use Rattle.job_commands.specs.Status.{of_plan_error, of_released_error, of_schedule_error};
 ghost use Rattle.job_commands.specs.Status.{of_script_error, of_second_box_error};
 ghost use Rattle.job_commands.specs.Status.{check_outcome as check_outcome_of, outcome_of};
 ghost use Rattle.job_commands.specs.Status.{play_outcome as play_outcome_of};
 ghost use Rattle.job_commands.specs.Status.{run_outcome as run_outcome_of};
 
+use hand_command::HandError;
+use hand_faults::{HandCause, HandFault};
+use handover_world::Unready;
 use input_files::InputError;
 use output_files::OutputError;
 use pcap_io::CaptureFault;
@@ -39,6 +43,8 @@ pub enum InputFault {
     Released(CaptureFault),
     /// The same, as a pcapng capture.
     NgReleased(NgFault),
+    /// The text of the handover, or the image that it says.
+    Handover(HandFault),
 }
 
 /// What a command came to.
@@ -61,6 +67,8 @@ pub enum Status {
     BadInput(InputFault),
     /// A file passes a limit, or the run would.
     TooLarge(Limit),
+    /// Behind the last event of `hand` the system can't be handed over yet, and why.
+    Unready(Unready),
 }
 
 impl Status {
@@ -77,6 +85,7 @@ impl Status {
             Status::NoMemory => 5,
             Status::BadInput(_) => 6,
             Status::TooLarge(_) => 7,
+            Status::Unready(_) => 9,
         }
     }
 }
@@ -155,6 +164,21 @@ pub fn plan_status(error: InputError<LineFault>) -> Status
     }
 }
 
+/// What a command comes to whose text of a handover is not accepted.
+pub fn image_status(error: InputError<LineFault>) -> Status
+    ensures { result ≡ of_image_error error }
+{
+    match error {
+        InputError::ReadFault => Status::ReadFault,
+        InputError::TooLarge(limit) => Status::TooLarge(limit),
+        InputError::Fault(LineFault { line, cause }) => {
+            let cause = HandCause::Line(cause);
+            Status::BadInput(InputFault::Handover(HandFault { line, cause }))
+        }
+        InputError::NoMemory => Status::NoMemory,
+    }
+}
+
 /// What a command comes to whose schedule is not accepted.
 pub fn schedule_status(error: InputError<LineFault>) -> Status
     ensures { result ≡ of_schedule_error error }
@@ -202,6 +226,19 @@ pub fn run_outcome(run: Result<(), RunError>) -> Status
         Err(RunError::Limit(limit)) => Status::TooLarge(limit),
         Err(RunError::WriteFault) => Status::WriteFault,
         Err(RunError::NoMemory) => Status::NoMemory,
+    }
+}
+
+/// What `hand` comes to.
+pub fn hand_outcome(hand: Result<(), HandError>) -> Status
+    ensures { result ≡ hand_outcome_of hand }
+{
+    match hand {
+        Ok(()) => Status::Done,
+        Err(HandError::Limit(limit)) => Status::TooLarge(limit),
+        Err(HandError::WriteFault) => Status::WriteFault,
+        Err(HandError::NoMemory) => Status::NoMemory,
+        Err(HandError::Unready(unready)) => Status::Unready(unready),
     }
 }
 

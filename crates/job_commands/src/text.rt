@@ -1,8 +1,10 @@
 ghost use Rattle.std.specs.Prelude.{◌≡◌, Some};
 ghost use Rattle.job_commands.specs.Text.{cause_text, capture_cause_text, move_cause_text};
-ghost use Rattle.job_commands.specs.Text.{ng_cause_text, limit_text};
+ghost use Rattle.job_commands.specs.Text.{hand_cause_text, ng_cause_text, limit_text};
 
 use crate::{InputFault, Status};
+use hand_faults::{HandCause, HandFault};
+use handover_world::Unready;
 use pcap_io::{CaptureCause, CaptureFault};
 use pcapng_io::{NgCause, NgFault};
 use plain_machine::{PlayCause, PlayFault};
@@ -61,6 +63,10 @@ impl fmt::Display for StatusText {
                 let cause = ng_cause(cause);
                 write!(f, "bad input: released: offset {offset}: {cause}")
             }
+            Status::BadInput(InputFault::Handover(HandFault { line, cause })) => {
+                let cause = hand_cause(cause);
+                write!(f, "bad input: handover: line {line}: {cause}")
+            }
             Status::Refuted(Refutation::Moves(PlayFault { number, cause })) => {
                 let cause = move_cause(cause);
                 write!(f, "refuted: schedule: move {number}: {cause}")
@@ -72,6 +78,9 @@ impl fmt::Display for StatusText {
                 let limit = limit_name(limit);
                 write!(f, "too large: {limit}")
             }
+            Status::Unready(Unready::Left(many)) => write!(f, "unready: left {many}"),
+            Status::Unready(Unready::Behind(many)) => write!(f, "unready: behind {many}"),
+            Status::Unready(Unready::Down) => f.write_str("unready: down"),
             Status::Done => f.write_str("done"),
             Status::BadWords => f.write_str("bad words"),
             Status::ReadFault => f.write_str("read fault"),
@@ -132,6 +141,17 @@ fn move_cause(cause: PlayCause) -> &'static str
         PlayCause::NothingToTake => "nothing to take",
         PlayCause::MissingAnswer => "missing answer",
         PlayCause::UnwantedAnswer => "unwanted answer",
+    }
+}
+
+fn hand_cause(cause: HandCause) -> &'static str
+    ensures { result.now ≡ hand_cause_text cause }
+{
+    match cause {
+        HandCause::Line(cause) => line_cause(cause),
+        HandCause::Count => "bad count",
+        HandCause::Move(cause) => move_cause(cause),
+        HandCause::Released => "bad released",
     }
 }
 

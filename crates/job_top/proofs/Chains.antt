@@ -173,6 +173,7 @@ chain_completes healthy names shown ok (inputs, a, within) s h =
     on status.NoMemory says = inr refl
     on (status.BadInput fault) says = absurd says
     on (status.TooLarge limit) says = absurd (within limit says)
+    on (status.Unready unready) says = absurd says
 
     go : (s ≡ status.NoMemory) ⊎ SaysOfChain healthy inputs s → Completes s
     go (inl none) = inr none

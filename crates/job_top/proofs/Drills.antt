@@ -152,6 +152,7 @@ drill_completes healthy names shown ok (inputs, a, within) s h =
     on status.NoMemory says = inr refl
     on (status.BadInput fault) says = absurd says
     on (status.TooLarge limit) says = absurd (within limit says)
+    on (status.Unready unready) says = absurd says
 
     go : (s ≡ status.NoMemory) ⊎ SaysOfDrill healthy names inputs s → Completes s
     go (inl none) = inr none

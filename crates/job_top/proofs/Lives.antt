@@ -27,6 +27,7 @@ use Rattle.job_commands.specs.declared.live_inputs.LiveInputs.{LiveInputs}
 use Rattle.job_commands.specs.declared.status.Status.{Status}
 use Rattle.job_commands.specs.declared.status.Status.TheVariants as status
 use Rattle.job_commands.specs.ChainWords.{ChainNames, chain_names}
+use Rattle.job_commands.specs.HandWords.{HandNames, ResumeNames, hand_names, resume_names}
 use Rattle.job_commands.specs.Live.{AcceptsLiveInputs, JudgesLiveFiles, JudgesLiveInputs}
 use Rattle.job_commands.specs.Status.{AtAnyTime, AtInputs, Completes, run_outcome, stage_of}
 use Rattle.job_commands.specs.Words.{CheckNames, DrillNames, IfAsks, LiveNames, Lives, MakeNames, PlayNames, RunNames}
@@ -236,43 +237,51 @@ lives_asked (a ∷ b ∷ c ∷ d ∷ e ∷ f ∷ g ∷ i ∷ more) names h = abs
 -- words that are not those of `live` do not ask for it
 pub not_lives : (run : Option RunNames) (live : Option LiveNames) (make : Option MakeNames) (play : Option PlayNames)
     (check : Option CheckNames) (drill : Option DrillNames) (trace : Option TraceNames)
-    (picture : Option PictureNames) (chain : Option ChainNames) (names : LiveNames) → live ≡ None
-    → one_of run live make play check drill trace picture chain ≡ Some (Lives names) → ⊥
-not_lives run (Some l) make play check drill trace picture chain names none is = absurd (cc)
-not_lives (Some r) None make play check drill trace picture chain names none is = absurd (cc)
-not_lives None None (Some m) play check drill trace picture chain names none is = absurd (cc)
-not_lives None None None (Some p) check drill trace picture chain names none is = absurd (cc)
-not_lives None None None None (Some c) drill trace picture chain names none is = absurd (cc)
-not_lives None None None None None (Some d) trace picture chain names none is = absurd (cc)
-not_lives None None None None None None (Some t) picture chain names none is = absurd (cc)
-not_lives None None None None None None None (Some v) chain names none is = absurd (cc)
-not_lives None None None None None None None None (Some n) names none is = absurd (cc)
-not_lives None None None None None None None None None names none is = absurd (cc)
+    (picture : Option PictureNames) (chain : Option ChainNames) (hand : Option HandNames)
+    (resume : Option ResumeNames) (names : LiveNames) → live ≡ None
+    → one_of run live make play check drill trace picture chain hand resume ≡ Some (Lives names) → ⊥
+not_lives run (Some l) make play check drill trace picture chain hand resume names none is = absurd (cc)
+not_lives (Some r) None make play check drill trace picture chain hand resume names none is = absurd (cc)
+not_lives None None (Some m) play check drill trace picture chain hand resume names none is = absurd (cc)
+not_lives None None None (Some p) check drill trace picture chain hand resume names none is = absurd (cc)
+not_lives None None None None (Some c) drill trace picture chain hand resume names none is = absurd (cc)
+not_lives None None None None None (Some d) trace picture chain hand resume names none is = absurd (cc)
+not_lives None None None None None None (Some t) picture chain hand resume names none is = absurd (cc)
+not_lives None None None None None None None (Some v) chain hand resume names none is = absurd (cc)
+not_lives None None None None None None None None (Some n) hand resume names none is = absurd (cc)
+not_lives None None None None None None None None None (Some h) resume names none is = absurd (cc)
+not_lives None None None None None None None None None None (Some r) names none is = absurd (cc)
+not_lives None None None None None None None None None None None names none is = absurd (cc)
 
 -- What the other commands leave does not hang on the clock.
 leave_any : (may : ℕ → Type 0) (run : Option RunNames) (live : Option LiveNames) (make : Option MakeNames)
     (play : Option PlayNames) (check : Option CheckNames) (drill : Option DrillNames) (trace : Option TraceNames)
-    (picture : Option PictureNames) (chain : Option ChainNames) (old new : Shown) → live ≡ None
-    → IfSome (one_of run live make play check drill trace picture chain)
+    (picture : Option PictureNames) (chain : Option ChainNames) (hand : Option HandNames)
+    (resume : Option ResumeNames) (old new : Shown) → live ≡ None
+    → IfSome (one_of run live make play check drill trace picture chain hand resume)
     (λ command. Leaves (λ t. ⊥) command old new)
-    → IfSome (one_of run live make play check drill trace picture chain) (λ command. Leaves may command old new)
-leave_any may (Some r) live make play check drill trace picture chain old new none h = h
-leave_any may None (Some l) make play check drill trace picture chain old new none h = absurd (cc)
-leave_any may None None (Some m) play check drill trace picture chain old new none h = h
-leave_any may None None None (Some p) check drill trace picture chain old new none h = h
-leave_any may None None None None (Some c) drill trace picture chain old new none h = h
-leave_any may None None None None None (Some d) trace picture chain old new none h = h
-leave_any may None None None None None None (Some t) picture chain old new none h = h
-leave_any may None None None None None None None (Some v) chain old new none h = h
-leave_any may None None None None None None None None (Some n) old new none h = h
-leave_any may None None None None None None None None None old new none h = h
+    → IfSome (one_of run live make play check drill trace picture chain hand resume)
+    (λ command. Leaves may command old new)
+leave_any may (Some r) live make play check drill trace picture chain hand resume old new none h = h
+leave_any may None (Some l) make play check drill trace picture chain hand resume old new none h = absurd (cc)
+leave_any may None None (Some m) play check drill trace picture chain hand resume old new none h = h
+leave_any may None None None (Some p) check drill trace picture chain hand resume old new none h = h
+leave_any may None None None None (Some c) drill trace picture chain hand resume old new none h = h
+leave_any may None None None None None (Some d) trace picture chain hand resume old new none h = h
+leave_any may None None None None None None (Some t) picture chain hand resume old new none h = h
+leave_any may None None None None None None None (Some v) chain hand resume old new none h = h
+leave_any may None None None None None None None None (Some n) hand resume old new none h = h
+leave_any may None None None None None None None None None (Some n) resume old new none h = h
+leave_any may None None None None None None None None None None (Some n) old new none h = h
+leave_any may None None None None None None None None None None None old new none h = h
 
 pub leaves_any : (may : ℕ → Type 0) (words : List (List ℕ)) (old new : Shown) → live_names words ≡ None
     → IfAsks words (λ command. Leaves (λ t. ⊥) command old new)
     → IfAsks words (λ command. Leaves may command old new)
 leaves_any may words old new none h =
     leave_any may (run_names words) (live_names words) (make_names words) (play_names words) (check_names words)
-    (drill_names words) (trace_names words) (picture_names words) (chain_names words) old new none h
+    (drill_names words) (trace_names words) (picture_names words) (chain_names words) (hand_names words)
+    (resume_names words) old new none h
 
 -- where all inputs are accepted, in a healthy world
 pub live_completes : (healthy : Type 0) (names : LiveNames) (shown : Shown) → healthy → (inputs : LiveInputs)
@@ -290,6 +299,7 @@ live_completes healthy names shown ok inputs a s h =
     on status.NoMemory says = inl (inr refl)
     on (status.BadInput fault) says = absurd says
     on (status.TooLarge limit) says = inr (limit, refl)
+    on (status.Unready unready) says = absurd says
 
     go : (s ≡ status.NoMemory) ⊎ SaysOfRun healthy inputs s
         → Completes s ⊎ ((limit : Limit) × (s ≡ status.TooLarge limit))
@@ -307,6 +317,7 @@ at_inputs status.WriteFault e = e
 at_inputs status.NoMemory e = e
 at_inputs (status.BadInput fault) e = e
 at_inputs (status.TooLarge limit) e = absurd (cc)
+at_inputs (status.Unready unready) e = e
 
 pub no_limit_at_inputs : (s : Status) → live_stage s ≡ AtInputs → (limit : Limit) → s ≡ status.TooLarge limit → ⊥
 no_limit_at_inputs s e limit is =

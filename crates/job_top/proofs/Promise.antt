@@ -27,7 +27,7 @@ use Rattle.job_top.specs.Headline.{KeepsPromise, KeepsDrillPromise, KeepsLivePro
 use Rattle.job_top.specs.Live.{LivesFiles, live_outputs, live_setting}
 
 -- what waits in a sound world waits for a named entry
-waits_named : {V : Type 0} (s : Setting V) (w : SystemWorld V) → Sound s w → (o : Sent) → IsAmong o w.waiting
+pub waits_named : {V : Type 0} (s : Setting V) (w : SystemWorld V) → Sound s w → (o : Sent) → IsAmong o w.waiting
     → (e : Entry) × IsFirstMissing (log_of w.past) (log_of w.stored) w.held o.emission.thread o.after e
 waits_named s w sound o among =
     let f = finish_there s w sound in (finish_ends s w f.0 sound f.1).waits o among

@@ -128,6 +128,7 @@ trace_refused healthy names (status.TooLarge limit) a quiet early (inl first) = 
 trace_refused healthy names (status.TooLarge limit) a quiet early (inr (inputs, accepted, (report, released, at))) =
     absurd (not_of_run (status.TooLarge limit) limit refl
     (stops_are (setting_for inputs) at.there at.event limit at.world at.stops) early)
+trace_refused healthy names (status.Unready unready) a quiet early h = absurd quiet
 
 -- An event that stops the run stops the trace.
 stops_longer : (inputs : Inputs) (limit : Limit) → StopsRun inputs limit → StopsTrace inputs limit
@@ -170,6 +171,7 @@ trace_completes healthy names shown ok (x, a, within) = go
     go (status.TooLarge limit) (inr (y, b, stops)) =
         absurd (within limit (subst (λ (i : Inputs). StopsTrace i limit)
         (inputs_one healthy (traced_run names) shown y x b a) stops))
+    go (status.Unready unready) h = absurd h
 
 -- Other names
 

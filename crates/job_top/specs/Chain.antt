@@ -72,6 +72,7 @@ SaysOfChain healthy inputs status.WriteFault = healthy → ⊥
 SaysOfChain healthy inputs status.NoMemory = Unit {0}
 SaysOfChain healthy inputs (status.BadInput fault) = ⊥
 SaysOfChain healthy inputs (status.TooLarge limit) = StopsChain inputs limit
+SaysOfChain healthy inputs (status.Unready unready) = ⊥
 
 -- What a status of `chain` says: of the first file that is not accepted, or of the chain.
 abbrev pub JudgesChain : Type 0 → ChainNames → Status → Shown → Type 0

@@ -74,6 +74,7 @@ SaysOfDrill healthy names inputs status.WriteFault = healthy → ⊥
 SaysOfDrill healthy names inputs status.NoMemory = Unit {0}
 SaysOfDrill healthy names inputs (status.BadInput fault) = ⊥
 SaysOfDrill healthy names inputs (status.TooLarge limit) = StopsDrill names inputs limit
+SaysOfDrill healthy names inputs (status.Unready unready) = ⊥
 
 -- What a status of `drill` says: of the first file that is not accepted, or of the drill.
 abbrev pub JudgesDrill : Type 0 → DrillNames → Status → Shown → Type 0

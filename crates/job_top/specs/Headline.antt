@@ -10,6 +10,11 @@ use Rattle.box_conf.specs.Kinds.{meaning_of}
 use Rattle.world_io.specs.World.{Shown}
 use Rattle.recovery_world.specs.declared.event.Event.{Event}
 use Rattle.recovery_world.specs.World.{Setting, Sent, World as SystemWorld, opening, all_inputs}
+use Rattle.plain_text.specs.declared.packet.Packet.{Packet}
+use Rattle.handover.specs.declared.image.Image.{Image}
+use Rattle.handover.specs.Images.{IsImage, image_text}
+use Rattle.handover_world.specs.Faults.{HasNoFault}
+use Rattle.hand_command.specs.Hand.{IsHandedOver, resting}
 use Rattle.recovery_world.specs.Events.{IsAmong}
 use Rattle.recovery_world.specs.Files.{Performs, packets_of}
 use Rattle.recovery_laws.specs.Ends.{Ends}
@@ -24,14 +29,18 @@ use Rattle.job_commands.specs.declared.live_inputs.LiveInputs.{LiveInputs}
 use Rattle.job_commands.specs.Live.{AcceptsLiveInputs}
 use Rattle.job_commands.specs.Run.{AcceptsInputs, outputs_of, setting_for}
 use Rattle.job_commands.specs.Words.{RunNames, LiveNames, DrillNames, Asked, Runs, Lives, Makes, Plays}
-use Rattle.job_commands.specs.Words.{Checks, Drills, Draws, Traces, Chains}
+use Rattle.job_commands.specs.Words.{Checks, Drills, Draws, Traces, Chains, Hands, Resumes}
 use Rattle.job_commands.specs.declared.chain_inputs.ChainInputs.{ChainInputs}
 use Rattle.job_commands.specs.Chain.{AcceptsChainInputs}
 use Rattle.job_commands.specs.ChainWords.{ChainNames}
+use Rattle.job_commands.specs.HandWords.{HandNames, ResumeNames}
+use Rattle.job_commands.specs.Resume.{resumed_setting}
 use Rattle.chain_command.specs.Headline.{KeepsChainPromise as KeepsBothPromises}
 use Rattle.job_top.specs.Chain.{chain_outputs, first_of, second_of}
 use Rattle.job_top.specs.Drill.{AcceptsDrillInputs, drill_outputs, drill_setting}
+use Rattle.job_top.specs.Hand.{AcceptsHandInputs, hand_outputs}
 use Rattle.job_top.specs.Live.{live_outputs, live_setting}
+use Rattle.job_top.specs.Resume.{HasGoneOn, resume_outputs}
 
 -- The written schedule, played by the plain machine on the captured packets, is a legal crash-free run. It performs
 -- every log entry that is held with all its predecessors, in its recorded place and with its recorded value; it sends
@@ -88,6 +97,55 @@ pub record KeepsChainPromise (names : ChainNames) (old new : Shown) : Type 0 whe
   pub accepted : AcceptsChainInputs names inputs old
   pub keeps : KeepsBothPromises (first_of inputs) (second_of inputs) (chain_outputs names) inputs.events new
 
+-- The events and four more lead to a world with nothing on the way. What it released is written, and the text of its
+-- image, which has no fault: a new system can go on from there.
+pub record KeepsHanded {V : Type 0} (s : Setting V) (names : OutputNames) (events : List Event)
+    (new : Shown) : Type 0 where
+  pub world : SystemWorld V
+  pub lines : List ℕ
+  pub performs : Performs s (opening V) (events ++ resting) lines world
+  pub image : Image
+  pub handed : IsHandedOver s world image
+  pub is_image : IsImage (image_text image) image
+  pub no_fault : HasNoFault s image
+  -- the written files: the text of the handover stands where a run has its schedule
+  pub handover_written : new.names names.schedule ≡ Some (image_text image)
+  pub released_written : new.names names.released ≡ Some (written s.fractions (packets_of world.released))
+
+-- the promise of `hand`, for the events of its script
+pub record KeepsHandPromise (names : HandNames) (old new : Shown) : Type 0 where
+  pub inputs : Inputs
+  pub accepted : AcceptsHandInputs names inputs old
+  pub keeps : KeepsHanded (setting_for inputs) (hand_outputs names) inputs.events new
+
+-- The promise of a run that goes on from this world: as that of a run, and the written packets are those that are
+-- released behind what was released before. The schedule is that of the whole run, from its first move.
+pub record KeepsPromiseFrom {V : Type 0} (s : Setting V) (from : SystemWorld V) (names : OutputNames)
+    (events : List Event) (new : Shown) : Type 0 where
+  pub world : SystemWorld V
+  pub lines : List ℕ
+  pub performs : Performs s from events lines world
+  -- the written files
+  pub schedule : List PlainMove
+  pub schedule_written : new.names names.schedule ≡ Some (schedule_text schedule)
+  pub released : List Packet
+  pub released_behind : packets_of world.released ≡ packets_of from.released ++ released
+  pub released_written : new.names names.released ≡ Some (written s.fractions released)
+  -- the run that the schedule is
+  pub steps : List (Step V)
+  pub plays : play s.meaning (all_inputs s) s.threads schedule ≡ Ok steps
+  pub ends : Ends s world steps
+  -- what waits after each first part of the events
+  pub waits_always : (first rest : List Event) → events ≡ first ++ rest → (early : List ℕ) (w : SystemWorld V)
+      → Performs s from first early w → (o : Sent) → IsAmong o w.waiting
+      → (e : Entry) × IsFirstMissing (log_of w.past) (log_of w.stored) w.held o.emission.thread o.after e
+
+-- The promise of `resume`: that of a run from each world that was handed over with the image of its text.
+abbrev pub KeepsResumePromise : ResumeNames → Shown → Shown → Type 0
+KeepsResumePromise names old new =
+    HasGoneOn names old
+    (λ source events w. KeepsPromiseFrom (resumed_setting source) w (resume_outputs names) events new)
+
 abbrev pub KeepsPromiseOf : Asked → Shown → Shown → Type 0
 KeepsPromiseOf (Runs names) old new = KeepsRunPromise names old new
 KeepsPromiseOf (Lives names) old new = KeepsLivePromise names old new
@@ -98,3 +156,5 @@ KeepsPromiseOf (Drills names) old new = KeepsDrillPromise names old new
 KeepsPromiseOf (Traces names) old new = Unit {0}
 KeepsPromiseOf (Draws names) old new = Unit {0}
 KeepsPromiseOf (Chains names) old new = KeepsChainPromise names old new
+KeepsPromiseOf (Hands names) old new = KeepsHandPromise names old new
+KeepsPromiseOf (Resumes names) old new = KeepsResumePromise names old new

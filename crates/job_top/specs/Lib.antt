@@ -2,7 +2,9 @@ pub mod Answers
 pub mod Chain
 pub mod Commands
 pub mod Drill
+pub mod Hand
 pub mod Headline
 pub mod Live
 pub mod Picture
+pub mod Resume
 pub mod Trace

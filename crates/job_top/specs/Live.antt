@@ -78,6 +78,7 @@ SaysOfRun healthy inputs status.WriteFault = healthy → ⊥
 SaysOfRun healthy inputs status.NoMemory = Unit {0}
 SaysOfRun healthy inputs (status.BadInput fault) = ⊥
 SaysOfRun healthy inputs (status.TooLarge limit) = StopsLive inputs limit
+SaysOfRun healthy inputs (status.Unready unready) = ⊥
 
 -- What a status of `live` says: of the first file that is not accepted, or of the run.
 abbrev pub JudgesLive : Type 0 → LiveNames → Status → Shown → Type 0
@@ -124,3 +125,4 @@ live_stage status.WriteFault = AtOutputs
 live_stage status.NoMemory = AtAnyTime
 live_stage (status.BadInput fault) = AtInputs
 live_stage (status.TooLarge limit) = AtAnyTime
+live_stage (status.Unready unready) = AtOutputs

@@ -61,6 +61,7 @@ JudgesTrace healthy names (status.BadInput fault) shown =
 JudgesTrace healthy names (status.TooLarge limit) shown =
     FirstIsTooLarge names.box_file names.capture (ScriptTooLarge names.script limit shown) limit shown
     ⊎ ((inputs : Inputs) × AcceptsTraceInputs names inputs shown × StopsTrace inputs limit)
+JudgesTrace healthy names (status.Unready unready) shown = ⊥
 
 -- The inputs are accepted, and the trace passes no limit.
 abbrev pub AreAcceptedForTrace : TraceNames → Shown → Type 0

@@ -3,8 +3,10 @@
 
 mod chain;
 mod drill;
+mod hand;
 mod live;
 mod picture;
+mod resume;
 mod top;
 mod trace;
 

@@ -2,11 +2,13 @@ ghost use Rattle.std.specs.Prelude.{◌≡◌, ◌+◌, ◌<◌, ◌≤◌, ◌-
 ghost use Rattle.std.specs.Prelude.{IsErrOf};
 ghost use Rattle.plain_text.specs.declared.limit.Limit.{Limit as LimitKind};
 ghost use Rattle.world_io.specs.Stream.{Rose};
+ghost use Rattle.handover_world.specs.declared.unready.Unready.{Unready as UnreadyKind};
 ghost use Rattle.input_files.specs.Files.{OpensAll, OpensFirst};
 ghost use Rattle.output_files.specs.Written.{WritesFiles};
 ghost use Rattle.run_writes.specs.Run.{CanRun, HasBegunRun, HasRun, HasStopped, KeepsShown};
 ghost use Rattle.job_top.specs.Commands.{AcceptsInputsOf, CompletesAs, Leaves, LeavesInOrder};
-ghost use Rattle.job_top.specs.Commands.{JudgesInputsOf, KeepsNames, StopsAtLimit, stage_in};
+ghost use Rattle.job_top.specs.Commands.{JudgesInputsOf, KeepsNames, LeavesUnready, StopsAtLimit};
+ghost use Rattle.job_top.specs.Commands.{stage_in};
 ghost use Rattle.job_top.specs.Headline.{KeepsPromiseOf, KeepsRunPromise};
 ghost use Rattle.job_commands.specs.Judging.{Judges};
 ghost use Rattle.job_commands.specs.Run.{RunsInOrder, RunsToLimit, RunsWhole, outputs_of};
@@ -19,8 +21,10 @@ ghost use Rattle.world_io.specs.World.{Start, WritingFailed};
 
 use crate::chain::chain;
 use crate::drill::drill;
+use crate::hand::hand;
 use crate::live::live;
 use crate::picture::picture;
+use crate::resume::resume;
 use crate::trace::trace;
 use box_conf::BoxKind;
 use job_commands::{
@@ -135,12 +139,15 @@ pub fn serial<W: World>(alloc: Global, words: &[Text], world: &mut W) -> Status
     ensures headline { (p : Start) → W.honest p world.new → result ≡ Status.Done → IfAsks words.now
         (λ command. KeepsPromiseOf command (W.shows p world.old) (W.shows p world.new)) }
 
-    // What any other answer leaves: the outputs up to a limit, a first part of them in their
-    // order, or nothing where an input is refused; then nothing is created either, whatever the
-    // world answered. No other file changes.
+    // What any other answer leaves: the outputs up to a limit, those of a system that is not ready,
+    // a first part of them in their order, or nothing where an input is refused; then nothing is
+    // created either, whatever the world answered. No other file changes.
     ensures limit { (p : Start) → W.honest p world.new → (limit : LimitKind)
         → result ≡ Status.TooLarge limit → IfAsks words.now
         (λ command. StopsAtLimit command limit (W.shows p world.old) (W.shows p world.new)) }
+    ensures unready { (p : Start) → W.honest p world.new → (unready : UnreadyKind)
+        → result ≡ Status.Unready unready → IfAsks words.now (λ command.
+        LeavesUnready command unready (W.shows p world.old) (W.shows p world.new)) }
     ensures in_order { (p : Start) → W.honest p world.new → IfAsks words.now
         (λ command. LeavesInOrder command (W.shows p world.old) (W.shows p world.new)) }
     ensures refused { (p : Start) → W.honest p world.new
@@ -181,6 +188,8 @@ pub fn serial<W: World>(alloc: Global, words: &[Text], world: &mut W) -> Status
         Some(Command::Trace(names)) => trace(alloc, world, names),
         Some(Command::Picture(names)) => picture(alloc, world, names),
         Some(Command::Chain(names)) => chain(alloc, world, names),
+        Some(Command::Hand(names)) => hand(alloc, world, names),
+        Some(Command::Resume(names)) => resume(alloc, world, names),
         Some(Command::Live(_)) => unreachable!(),
         None => Status::BadWords,
     }
@@ -237,12 +246,24 @@ pub fn serial<W: World>(alloc: Global, words: &[Text], world: &mut W) -> Status
 /// a line for each event, with the number of its box, and a last one for each box. The outputs are created, in their
 /// order, only when all input files are accepted, and each event is written as that of `run`.
 ///
+/// `hand BOX CAPTURE SCRIPT RELEASED HANDOVER`, five names of files of which the two outputs differ: the box is run on
+/// the packets of the capture by the events of the script, as by `run`. Where the system is ready then, a snapshot is
+/// made and stored, the master crashes and a new one recovers, with lines of their own; HANDOVER is the text of the
+/// system's whole state, and the report has its last line. Where the system is not ready, the status says why, HANDOVER
+/// is empty, and there is no last line.
+///
+/// `resume BOX CAPTURE HANDOVER SCRIPT RELEASED SCHEDULE`, six names of files of which the two outputs differ: a new
+/// system goes on from the state that HANDOVER is the text of, on the same box and capture, by the events of the
+/// script. RELEASED is the capture of the packets that these events released, and SCHEDULE the moves of the whole run,
+/// from its first move. A text that is of no system on this box and capture is refused, by its first fault, before the
+/// script is read.
+///
 /// What the clauses say of bytes they say by each beginning, the bytes that stood under each name then, for which the
 /// world's answers were honest: those of files with these bytes.
 ///
 /// In a healthy world, a command whose words are right, whose inputs are there and are accepted,
-/// and that passes no limit, is done, unless memory runs out or the schedule or the released packets are refused. There
-/// a read fault says that the first input that is not accepted is not there.
+/// and that passes no limit, is done, unless memory runs out or the schedule or the released packets are refused, or
+/// the system of `hand` is not ready. There a read fault says that the first input that is not accepted is not there.
 ///
 /// A world that has given fewer than 2^31 numbers has room for the files of any command, which are eight at most.
 pub fn ftmb<W: World, C: Clock + Sync, G: Gate + Sync, R: AllocGlobal + Threads + Wait + Sync>(
@@ -266,12 +287,15 @@ pub fn ftmb<W: World, C: Clock + Sync, G: Gate + Sync, R: AllocGlobal + Threads 
     ensures headline { (p : Start) → W.honest p world.new → result ≡ Status.Done → IfAsks words.now
         (λ command. KeepsPromiseOf command (W.shows p world.old) (W.shows p world.new)) }
 
-    // What any other answer leaves: the outputs up to a limit, a first part of them in their
-    // order, or nothing where an input is refused; then nothing is created either, whatever the
-    // world answered. No other file changes.
+    // What any other answer leaves: the outputs up to a limit, those of a system that is not ready,
+    // a first part of them in their order, or nothing where an input is refused; then nothing is
+    // created either, whatever the world answered. No other file changes.
     ensures limit { (p : Start) → W.honest p world.new → (limit : LimitKind)
         → result ≡ Status.TooLarge limit → IfAsks words.now
         (λ command. StopsAtLimit command limit (W.shows p world.old) (W.shows p world.new)) }
+    ensures unready { (p : Start) → W.honest p world.new → (unready : UnreadyKind)
+        → result ≡ Status.Unready unready → IfAsks words.now (λ command.
+        LeavesUnready command unready (W.shows p world.old) (W.shows p world.new)) }
     ensures in_order { (p : Start) → W.honest p world.new → IfAsks words.now
         (λ command. LeavesInOrder command (W.shows p world.old) (W.shows p world.new)) }
     ensures refused { (p : Start) → W.honest p world.new

@@ -6,8 +6,9 @@ use std::rt::Files;
 const LONGEST: usize = 10;
 
 /// The commands.
-const COMMANDS: [&str; 11] = [
-    "run", "live", "drill", "trace", "picture", "chain", "tap", "play", "check", "make", "watch",
+const COMMANDS: [&str; 13] = [
+    "run", "live", "drill", "trace", "picture", "chain", "hand", "resume", "tap", "play", "check",
+    "make", "watch",
 ];
 
 /// What stands behind a command.
@@ -19,6 +20,8 @@ fn words_behind(command: &str) -> &'static str {
         "trace" => "BOX CAPTURE SCRIPT TABLE",
         "picture" => "BOX CAPTURE SCRIPT PICTURE",
         "chain" => "BOX1 BOX2 CAPTURE SCRIPT MIDDLE RELEASED SCHEDULE1 SCHEDULE2",
+        "hand" => "BOX CAPTURE SCRIPT RELEASED HANDOVER",
+        "resume" => "BOX CAPTURE HANDOVER SCRIPT RELEASED SCHEDULE",
         "tap" => "NAME [tap NAME] .. run .. or live ..",
         "play" => "BOX CAPTURE SCHEDULE OUT",
         "check" => "BOX CAPTURE SCHEDULE RELEASED",

@@ -20,6 +20,7 @@ returns-in-Command-clause-performs g c p q =
         done = done.done p q;
         headline = done.headline p q;
         limit = done.limit p q;
+        unready = done.unready p q;
         in_order = done.in_order p q;
         refused = done.refused p q;
         others = done.others p q;

@@ -8,3 +8,7 @@ returns-in-Ok-clause-says c = λ bytes is.
     image_accepted c.args.text bytes c.in-Ok.image
     (subst (λ (text : List ℕ). IsImage text c.in-Ok.image) c.as_slice.ensures c.in-Ok.ensures.image)
     c.in-Ok.ensures.few is
+
+pub returns-in-Ok-clause-image : goal.returns-in-Ok-clause-image
+returns-in-Ok-clause-image c =
+    subst (λ (text : List ℕ). IsImage text c.in-Ok.image) c.as_slice.ensures c.in-Ok.ensures.image

@@ -1,6 +1,7 @@
 use Rattle.std.proofs.Common.{◌≡◌, ap, sym, ◌∙◌, None, Some}
 use Rattle.job_commands.specs.Words.{Lives, asked, live_names_of}
 use Rattle.job_top.proofs.Lives.{at_inputs, leaves_any, live_completes, live_others, lives_asked, no_limit_at_inputs}
+use Rattle.job_top.proofs.NotUnready.{live_ready}
 use Rattle.job_top.proofs.top.ftmb.Goals as goal
 
 -- words of `live`
@@ -40,6 +41,13 @@ returns-in-Some-clause-limit g c p q limit e =
     let is : asked c.args.words.now ≡ Some (Lives (live_names_of c.in-Some.names)) =
     lives_asked c.args.words.now (live_names_of c.in-Some.names) c.in-Some.ensures.names in
     rw is (c.live.ensures.limit p q limit e)
+
+pub returns-in-Some-clause-unready : goal.returns-in-Some-clause-unready
+returns-in-Some-clause-unready g c p q u e =
+    let is : asked c.args.words.now ≡ Some (Lives (live_names_of c.in-Some.names)) =
+    lives_asked c.args.words.now (live_names_of c.in-Some.names) c.in-Some.ensures.names in
+    rw is (live_ready (g.W.World.healthy c.args.world.now) (g.W.World.shows p c.args.world.now) c.live.result u e
+    (live_names_of c.in-Some.names) (c.live.ensures.judged p q))
 
 pub returns-in-Some-clause-in_order : goal.returns-in-Some-clause-in_order
 returns-in-Some-clause-in_order g c p q =

@@ -6,6 +6,7 @@ use Rattle.job_commands.specs.Words.{asked_of, check_names, check_names_of, dril
 use Rattle.job_commands.specs.Words.{live_names_of, made_of, picture_names, picture_names_of, pictured_run}
 use Rattle.job_commands.specs.Words.{trace_names, trace_names_of}
 use Rattle.job_commands.specs.ChainWords.{chain_names, chain_names_of}
+use Rattle.job_commands.specs.HandWords.{hand_names, hand_names_of, resume_names, resume_names_of}
 use Rattle.job_commands.specs.Words.{make_names}
 use Rattle.job_commands.specs.Words.{names_of, play_names, play_names_of, run_names}
 use Rattle.job_commands.proofs.Outcomes.{made_completes, made_refuses, made_not_at_inputs}
@@ -15,8 +16,12 @@ use Rattle.job_commands.proofs.Finds.{check_completes}
 use Rattle.job_commands.proofs.Others.{run_others, made_others, play_others, check_others}
 use Rattle.job_top.proofs.Chains.{chain_completes, chain_others}
 use Rattle.job_top.proofs.Drills.{drill_completes, drill_others}
+use Rattle.job_top.proofs.Hands.{hand_completes, hand_others}
 use Rattle.job_top.proofs.Lives.{not_lives}
+use Rattle.job_top.proofs.NotUnready.{chain_ready, check_ready, drill_ready, make_ready, play_ready, resume_ready}
+use Rattle.job_top.proofs.NotUnready.{run_ready, trace_ready}
 use Rattle.job_top.proofs.Pictured.{picture_others}
+use Rattle.job_top.proofs.Resumed.{resume_completes, resume_others}
 use Rattle.job_top.proofs.Traced.{trace_completes, trace_others}
 use Rattle.job_top.proofs.top.serial.Goals as goal
 
@@ -24,8 +29,8 @@ pub unreachable-requires : goal.unreachable-requires
 unreachable-requires g c =
     let words = c.args.words.now in
     not_lives (run_names words) (live_names words) (make_names words) (play_names words) (check_names words)
-    (drill_names words) (trace_names words) (picture_names words) (chain_names words)
-    (live_names_of c.in-Some-Live.field-0-0) c.requires.no_rounds
+    (drill_names words) (trace_names words) (picture_names words) (chain_names words) (hand_names words)
+    (resume_names words) (live_names_of c.in-Some-Live.field-0-0) c.requires.no_rounds
     (c.in-Some-Live.ensures ∙ ap (λ z. Some (asked_of z)) c.in-Some-Live.field-0-is)
 
 pub returns-in-Some-Run-clause-done : goal.returns-in-Some-Run-clause-done
@@ -322,3 +327,136 @@ returns-in-Some-Chain-clause-opens_in_order g c =
 pub returns-in-Some-Chain-clause-opens_all : goal.returns-in-Some-Chain-clause-opens_all
 returns-in-Some-Chain-clause-opens_all g c done =
     rw (c.in-Some-Chain.ensures, c.in-Some-Chain.field-0-is) (c.chain.ensures.opens_all done)
+
+pub returns-in-Some-Hand-clause-done : goal.returns-in-Some-Hand-clause-done
+returns-in-Some-Hand-clause-done g c p q done =
+    rw (c.in-Some-Hand.ensures, c.in-Some-Hand.field-0-is) (c.hand.ensures.done p q done)
+
+pub returns-in-Some-Hand-clause-completes : goal.returns-in-Some-Hand-clause-completes
+returns-in-Some-Hand-clause-completes g c ok p q =
+    rw (c.in-Some-Hand.ensures, c.in-Some-Hand.field-0-is)
+    (λ accepted. hand_completes (g.W.World.healthy c.args.world.now) (hand_names_of c.in-Some-Hand.names)
+    (g.W.World.shows p c.args.world.now) ok accepted c.hand.result (c.hand.ensures.judged p q))
+
+pub returns-in-Some-Hand-clause-refused : goal.returns-in-Some-Hand-clause-refused
+returns-in-Some-Hand-clause-refused g c p q =
+    rw (c.in-Some-Hand.ensures, c.in-Some-Hand.field-0-is) (λ e. c.hand.ensures.refused p q e)
+
+pub returns-in-Some-Hand-clause-limit : goal.returns-in-Some-Hand-clause-limit
+returns-in-Some-Hand-clause-limit g c p q limit e =
+    rw (c.in-Some-Hand.ensures, c.in-Some-Hand.field-0-is) (λ stage. c.hand.ensures.limit p q limit e stage)
+
+pub returns-in-Some-Hand-clause-others : goal.returns-in-Some-Hand-clause-others
+returns-in-Some-Hand-clause-others g c p q =
+    rw (c.in-Some-Hand.ensures, c.in-Some-Hand.field-0-is) (hand_others (hand_names_of c.in-Some-Hand.names)
+    (g.W.World.shows p c.args.world.now) (g.W.World.shows p c.hand.new.world) (c.hand.ensures.in_order p q))
+
+pub returns-in-Some-Hand-clause-write_fault : goal.returns-in-Some-Hand-clause-write_fault
+returns-in-Some-Hand-clause-write_fault g c e = (c.hand.ensures.write_fault e).rose
+
+pub returns-in-Some-Hand-clause-never_fails : goal.returns-in-Some-Hand-clause-never_fails
+returns-in-Some-Hand-clause-never_fails g c ok e = (c.hand.ensures.write_fault e).not_healthy ok
+
+pub returns-in-Some-Hand-clause-opens_in_order : goal.returns-in-Some-Hand-clause-opens_in_order
+returns-in-Some-Hand-clause-opens_in_order g c =
+    rw (c.in-Some-Hand.ensures, c.in-Some-Hand.field-0-is) c.hand.ensures.opens_in_order
+
+pub returns-in-Some-Hand-clause-opens_all : goal.returns-in-Some-Hand-clause-opens_all
+returns-in-Some-Hand-clause-opens_all g c done =
+    rw (c.in-Some-Hand.ensures, c.in-Some-Hand.field-0-is) (c.hand.ensures.opens_all done)
+
+pub returns-in-Some-Resume-clause-done : goal.returns-in-Some-Resume-clause-done
+returns-in-Some-Resume-clause-done g c p q done =
+    rw (c.in-Some-Resume.ensures, c.in-Some-Resume.field-0-is) (c.resume.ensures.done p q done)
+
+pub returns-in-Some-Resume-clause-completes : goal.returns-in-Some-Resume-clause-completes
+returns-in-Some-Resume-clause-completes g c ok p q =
+    rw (c.in-Some-Resume.ensures, c.in-Some-Resume.field-0-is)
+    (λ accepted. resume_completes (g.W.World.healthy c.args.world.now) (resume_names_of c.in-Some-Resume.names)
+    (g.W.World.shows p c.args.world.now) ok accepted c.resume.result (c.resume.ensures.judged p q))
+
+pub returns-in-Some-Resume-clause-refused : goal.returns-in-Some-Resume-clause-refused
+returns-in-Some-Resume-clause-refused g c p q =
+    rw (c.in-Some-Resume.ensures, c.in-Some-Resume.field-0-is) (λ e. c.resume.ensures.refused p q e)
+
+pub returns-in-Some-Resume-clause-limit : goal.returns-in-Some-Resume-clause-limit
+returns-in-Some-Resume-clause-limit g c p q limit e =
+    rw (c.in-Some-Resume.ensures, c.in-Some-Resume.field-0-is) (λ stage. c.resume.ensures.limit p q limit e stage)
+
+pub returns-in-Some-Resume-clause-others : goal.returns-in-Some-Resume-clause-others
+returns-in-Some-Resume-clause-others g c p q =
+    rw (c.in-Some-Resume.ensures, c.in-Some-Resume.field-0-is) (resume_others (resume_names_of c.in-Some-Resume.names)
+    (g.W.World.shows p c.args.world.now) (g.W.World.shows p c.resume.new.world) (c.resume.ensures.in_order p q))
+
+pub returns-in-Some-Resume-clause-write_fault : goal.returns-in-Some-Resume-clause-write_fault
+returns-in-Some-Resume-clause-write_fault g c e = (c.resume.ensures.write_fault e).rose
+
+pub returns-in-Some-Resume-clause-never_fails : goal.returns-in-Some-Resume-clause-never_fails
+returns-in-Some-Resume-clause-never_fails g c ok e = (c.resume.ensures.write_fault e).not_healthy ok
+
+pub returns-in-Some-Resume-clause-opens_in_order : goal.returns-in-Some-Resume-clause-opens_in_order
+returns-in-Some-Resume-clause-opens_in_order g c =
+    rw (c.in-Some-Resume.ensures, c.in-Some-Resume.field-0-is) c.resume.ensures.opens_in_order
+
+pub returns-in-Some-Resume-clause-opens_all : goal.returns-in-Some-Resume-clause-opens_all
+returns-in-Some-Resume-clause-opens_all g c done =
+    rw (c.in-Some-Resume.ensures, c.in-Some-Resume.field-0-is) (c.resume.ensures.opens_all done)
+
+-- No command but `hand` comes to a system that is not ready.
+
+pub returns-in-Some-Run-clause-unready : goal.returns-in-Some-Run-clause-unready
+returns-in-Some-Run-clause-unready g c p q u e =
+    rw (c.in-Some-Run.ensures, c.in-Some-Run.field-0-is)
+    (run_ready (g.W.World.healthy c.args.world.now) (g.W.World.shows p c.args.world.now) c.run.result u e
+    (names_of c.in-Some-Run.names) (c.run.ensures.judged p q))
+
+pub returns-in-Some-Make-clause-unready : goal.returns-in-Some-Make-clause-unready
+returns-in-Some-Make-clause-unready g c p q u e =
+    rw (c.in-Some-Make.ensures, c.in-Some-Make.field-0-is)
+    (make_ready c.make_capture.result u (sym c.outcome.ensures ∙ e))
+
+pub returns-in-Some-Play-clause-unready : goal.returns-in-Some-Play-clause-unready
+returns-in-Some-Play-clause-unready g c p q u e =
+    rw (c.in-Some-Play.ensures, c.in-Some-Play.field-0-is)
+    (play_ready (g.W.World.healthy c.args.world.now) (g.W.World.shows p c.args.world.now) c.play_capture.result u e
+    (play_names_of c.in-Some-Play.names) (c.play_capture.ensures.judged p q))
+
+pub returns-in-Some-Check-clause-unready : goal.returns-in-Some-Check-clause-unready
+returns-in-Some-Check-clause-unready g c p q u e =
+    rw (c.in-Some-Check.ensures, c.in-Some-Check.field-0-is)
+    (check_ready (g.W.World.healthy c.args.world.now) (g.W.World.shows p c.args.world.now) c.check_released.result u e
+    (check_names_of c.in-Some-Check.names) (c.check_released.ensures.judged p q))
+
+pub returns-in-Some-Drill-clause-unready : goal.returns-in-Some-Drill-clause-unready
+returns-in-Some-Drill-clause-unready g c p q u e =
+    rw (c.in-Some-Drill.ensures, c.in-Some-Drill.field-0-is)
+    (drill_ready (g.W.World.healthy c.args.world.now) (g.W.World.shows p c.args.world.now) c.drill.result u e
+    (drill_names_of c.in-Some-Drill.names) (c.drill.ensures.judged p q))
+
+pub returns-in-Some-Trace-clause-unready : goal.returns-in-Some-Trace-clause-unready
+returns-in-Some-Trace-clause-unready g c p q u e =
+    rw (c.in-Some-Trace.ensures, c.in-Some-Trace.field-0-is)
+    (trace_ready (g.W.World.healthy c.args.world.now) (g.W.World.shows p c.args.world.now) c.trace.result u e
+    (trace_names_of c.in-Some-Trace.names) (c.trace.ensures.judged p q))
+
+pub returns-in-Some-Chain-clause-unready : goal.returns-in-Some-Chain-clause-unready
+returns-in-Some-Chain-clause-unready g c p q u e =
+    rw (c.in-Some-Chain.ensures, c.in-Some-Chain.field-0-is)
+    (chain_ready (g.W.World.healthy c.args.world.now) (g.W.World.shows p c.args.world.now) c.chain.result u e
+    (chain_names_of c.in-Some-Chain.names) (c.chain.ensures.judged p q))
+
+pub returns-in-Some-Resume-clause-unready : goal.returns-in-Some-Resume-clause-unready
+returns-in-Some-Resume-clause-unready g c p q u e =
+    rw (c.in-Some-Resume.ensures, c.in-Some-Resume.field-0-is)
+    (resume_ready (g.W.World.healthy c.args.world.now) (g.W.World.shows p c.args.world.now) c.resume.result u e
+    (resume_names_of c.in-Some-Resume.names) (c.resume.ensures.judged p q))
+
+pub returns-in-Some-Picture-clause-unready : goal.returns-in-Some-Picture-clause-unready
+returns-in-Some-Picture-clause-unready g c p q u e =
+    rw (c.in-Some-Picture.ensures, c.in-Some-Picture.field-0-is)
+    (run_ready (g.W.World.healthy c.args.world.now) (g.W.World.shows p c.args.world.now) c.picture.result u e
+    (pictured_run (picture_names_of c.in-Some-Picture.names)) (c.picture.ensures.judged p q))
+
+pub returns-in-Some-Hand-clause-unready : goal.returns-in-Some-Hand-clause-unready
+returns-in-Some-Hand-clause-unready g c p q u e =
+    rw (c.in-Some-Hand.ensures, c.in-Some-Hand.field-0-is) (c.hand.ensures.unready p q u e)

@@ -14,6 +14,7 @@ returns-clause-answers g c =
         done = told.done p h;
         headline = told.headline p h;
         limit = told.limit p h;
+        unready = told.unready p h;
         in_order = told.in_order p h;
         refused = told.refused p h;
         others = told.others p h;

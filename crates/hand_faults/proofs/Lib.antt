@@ -1,0 +1,4 @@
+pub mod OneFault
+pub mod Places
+pub mod SomeFault
+pub mod TextLines

@@ -1,0 +1,250 @@
+-- What the status of `hand` says, and what it leaves: from before its inputs were read.
+use Rattle.std.proofs.Common.{◌≡◌, ◌⊎◌, List, ◌∷◌, ◌++◌, refl, ap, ◌∙◌, subst, inl, inr, Result, Ok, Err}
+use Rattle.std.proofs.Common.{append_assoc}
+use Rattle.std.specs.Prelude.{⊤, IsErrOf, OnOk}
+use Rattle.plain_text.specs.declared.limit.Limit.{Limit}
+use Rattle.world_io.specs.World.{Shown}
+use Rattle.recovery_world.specs.declared.event.Event.{Event}
+use Rattle.recovery_world.specs.World.{Setting}
+use Rattle.recovery_world.specs.Files.{done_line}
+use Rattle.handover.specs.Images.{image_text}
+use Rattle.handover_world.specs.declared.unready.Unready.{Unready}
+use Rattle.run_writes.specs.Replies.{lines_in, released_in}
+use Rattle.run_writes.specs.Run.{HasStopped, OutputNames}
+use Rattle.run_writes.proofs.ScriptAnswers.{answers_perform}
+use Rattle.hand_command.specs.declared.error.HandError.{HandError}
+use Rattle.hand_command.specs.declared.error.HandError.TheVariants as hand_error
+use Rattle.hand_command.specs.Hand.{HasBegunHand, HasHanded, IsNotReady, resting}
+use Rattle.input_files.specs.Files.{KeepsOutputs}
+use Rattle.live_writes.proofs.ScriptSteps.{spare_cut, spared}
+use Rattle.job_commands.specs.declared.inputs.Inputs.{Inputs}
+use Rattle.job_commands.specs.declared.status.Status.{Status}
+use Rattle.job_commands.specs.declared.status.Status.TheVariants as status
+use Rattle.job_commands.specs.Judging.{Judges}
+use Rattle.job_commands.specs.Run.{StopsRun, setting_for}
+use Rattle.job_commands.specs.Status.{AtInputs, AtOutputs, ComesAt, Completes, EndsReading, IsRefusal, hand_outcome}
+use Rattle.job_commands.specs.Status.{stage_of, stage_of_limit}
+use Rattle.job_commands.specs.HandWords.{HandNames}
+use Rattle.job_commands.specs.Words.{run_of_hand}
+use Rattle.job_commands.proofs.OneVerdict.{inputs_one, run_completes}
+use Rattle.job_commands.proofs.Outcomes.{begun_writes_since, files_since, not_of_run}
+use Rattle.job_commands.proofs.RunLimits.{stops_are}
+use Rattle.job_top.specs.Hand.{AcceptsHandInputs, AreAcceptedForHand, HandsInOrder, HandsToLimit, HandsUnready}
+use Rattle.job_top.specs.Hand.{HandsWhole, JudgesHand, KeepsHandNames, StopsHand, hand_outputs}
+use Rattle.job_top.proofs.SparedNames.{spare_hand}
+
+-- The files are as they were when the inputs had been read.
+module _ (a b c : Shown) (keeps : KeepsOutputs a b) {V : Type 0} (s : Setting V) (names : OutputNames)
+    (events : List Event) where
+  pub handed_since : (r : Result ⊤ HandError) → OnOk r (HasHanded s names events b c)
+      → OnOk r (HasHanded s names events a c)
+  handed_since (Ok done) r = record {
+    hand = r.hand;
+    files =
+        files_since a b c keeps names s.fractions (released_in (r.hand.replies ++ r.hand.last))
+        (image_text r.hand.image) (lines_in (r.hand.replies ++ r.hand.last) ++ done_line r.hand.world) r.files;
+  }
+  handed_since (Err e) r = tt
+
+  pub unready_since : (unready : Unready) → IsNotReady s names events unready b c
+      → IsNotReady s names events unready a c
+  unready_since unready r = record {
+    replies = r.replies;
+    world = r.world;
+    answers = r.answers;
+    readiness = r.readiness;
+    fit_records = r.fit_records;
+    files = files_since a b c keeps names s.fractions (released_in r.replies) _ (lines_in r.replies) r.files;
+  }
+
+  pub order_handed : HasBegunHand s names events b c → HasBegunHand s names events a c
+  order_handed (writes, is, begun) = (writes, is, begun_writes_since a b c keeps writes begun)
+
+-- The status of the hand-over, where its inputs are accepted.
+
+module _ (healthy : Type 0) (names : HandNames) (inputs : Inputs) (a c : Shown)
+    (accepted : AcceptsHandInputs names inputs a) where
+  abbrev Leaves : Result ⊤ HandError → Type 0
+  Leaves r = OnOk r (HasHanded (setting_for inputs) (hand_outputs names) inputs.events a c)
+
+  abbrev StaysUnready : Result ⊤ HandError → Type 0
+  StaysUnready r =
+      (unready : Unready) → r ≡ Err (hand_error.Unready unready)
+      → IsNotReady (setting_for inputs) (hand_outputs names) inputs.events unready a c
+
+  abbrev Stops : Result ⊤ HandError → Type 0
+  Stops r =
+      (limit : Limit) → r ≡ Err (hand_error.Limit limit)
+      → HasStopped (setting_for inputs) (hand_outputs names) (inputs.events ++ resting) limit a c
+
+  pub hand_judged : (r : Result ⊤ HandError) → (healthy → ¬ IsErrOf r hand_error.WriteFault) → Leaves r
+      → StaysUnready r → Stops r → JudgesHand healthy names (hand_outcome r) a
+  hand_judged (Ok done) never whole unready limit = (inputs, accepted, whole.hand)
+  hand_judged (Err (hand_error.Limit l)) never whole unready limit =
+      let h = limit l refl in inr (inputs, accepted, (h.report, h.released, h.leaves))
+  hand_judged (Err hand_error.WriteFault) never whole unready limit = (λ ok. never ok refl, inputs, accepted)
+  hand_judged (Err hand_error.NoMemory) never whole unready limit = tt
+  hand_judged (Err (hand_error.Unready u)) never whole unready limit =
+      let h = unready u refl in (
+        inputs,
+        accepted,
+        (
+          lines_in h.replies,
+          h.world,
+          answers_perform (setting_for inputs) inputs.events h.replies h.world h.answers,
+          h.readiness,
+        ),
+      )
+
+  pub hand_done : (r : Result ⊤ HandError) → hand_outcome r ≡ status.Done → Leaves r → HandsWhole names a c
+  hand_done (Ok done) e whole = (inputs, accepted, whole)
+  hand_done (Err (hand_error.Limit l)) e whole = absurd (cc)
+  hand_done (Err hand_error.WriteFault) e whole = absurd (cc)
+  hand_done (Err hand_error.NoMemory) e whole = absurd (cc)
+  hand_done (Err (hand_error.Unready u)) e whole = absurd (cc)
+
+  pub hand_unready : (r : Result ⊤ HandError) (u : Unready) → hand_outcome r ≡ status.Unready u → StaysUnready r
+      → HandsUnready names u a c
+  hand_unready (Ok done) u e unready = absurd (cc)
+  hand_unready (Err (hand_error.Limit l)) u e unready = absurd (cc)
+  hand_unready (Err hand_error.WriteFault) u e unready = absurd (cc)
+  hand_unready (Err hand_error.NoMemory) u e unready = absurd (cc)
+  hand_unready (Err (hand_error.Unready v)) u e unready =
+      let same : v ≡ u = cc in (
+        inputs,
+        accepted,
+        subst (λ (x : Unready). IsNotReady (setting_for inputs) (hand_outputs names) inputs.events x a c) same
+            (unready v refl),
+      )
+
+  pub hand_limit : (r : Result ⊤ HandError) (l : Limit) → hand_outcome r ≡ status.TooLarge l → Stops r
+      → HandsToLimit names l a c
+  hand_limit (Ok done) l e limit = absurd (cc)
+  hand_limit (Err (hand_error.Limit k)) l e limit =
+      let same : k ≡ l = cc in (
+        inputs,
+        accepted,
+        subst
+            (λ (m : Limit).
+            HasStopped (setting_for inputs) (hand_outputs names) (inputs.events ++ resting) m a c)
+            same (limit k refl),
+      )
+  hand_limit (Err hand_error.WriteFault) l e limit = absurd (cc)
+  hand_limit (Err hand_error.NoMemory) l e limit = absurd (cc)
+  hand_limit (Err (hand_error.Unready u)) l e limit = absurd (cc)
+
+  -- a hand-over never ends at its inputs
+  pub hand_not_at_inputs : (r : Result ⊤ HandError) → stage_of (hand_outcome r) ≡ AtInputs → Stops r → ⊥
+  hand_not_at_inputs (Ok done) e limit = cc
+  hand_not_at_inputs (Err (hand_error.Limit l)) e limit =
+      let at = (limit l refl).leaves in
+      let stage : stage_of_limit l ≡ AtOutputs =
+      stops_are (setting_for inputs) at.there at.event l at.world at.stops in
+      cc
+  hand_not_at_inputs (Err hand_error.WriteFault) e limit = cc
+  hand_not_at_inputs (Err hand_error.NoMemory) e limit = cc
+  hand_not_at_inputs (Err (hand_error.Unready u)) e limit = cc
+
+pub hand_words : (r : Result ⊤ HandError) → hand_outcome r ≡ status.BadWords → ⊥
+hand_words (Ok done) e = cc
+hand_words (Err (hand_error.Limit l)) e = cc
+hand_words (Err hand_error.WriteFault) e = cc
+hand_words (Err hand_error.NoMemory) e = cc
+hand_words (Err (hand_error.Unready u)) e = cc
+
+pub hand_reads : (r : Result ⊤ HandError) → hand_outcome r ≡ status.ReadFault → ⊥
+hand_reads (Ok done) e = cc
+hand_reads (Err (hand_error.Limit l)) e = cc
+hand_reads (Err hand_error.WriteFault) e = cc
+hand_reads (Err hand_error.NoMemory) e = cc
+hand_reads (Err (hand_error.Unready u)) e = cc
+
+pub hand_fails : (r : Result ⊤ HandError) → hand_outcome r ≡ status.WriteFault → IsErrOf r hand_error.WriteFault
+hand_fails (Ok done) e = absurd (cc)
+hand_fails (Err (hand_error.Limit l)) e = absurd (cc)
+hand_fails (Err hand_error.WriteFault) e = refl
+hand_fails (Err hand_error.NoMemory) e = absurd (cc)
+hand_fails (Err (hand_error.Unready u)) e = absurd (cc)
+
+pub hand_refuses : (r : Result ⊤ HandError) → IsRefusal (hand_outcome r) → ⊥
+hand_refuses (Ok done) e = e
+hand_refuses (Err (hand_error.Limit l)) e = e
+hand_refuses (Err hand_error.WriteFault) e = e
+hand_refuses (Err hand_error.NoMemory) e = e
+hand_refuses (Err (hand_error.Unready u)) e = e
+
+-- no input is refused so
+pub quiet_unready : (s : Status) (u : Unready) → s ≡ status.Unready u → EndsReading s → ⊥
+quiet_unready s u e h = subst (λ (s : Status). EndsReading s) e h
+
+-- what a refused input says, which is no stop of a run
+pub hand_refused : (healthy : Type 0) (names : HandNames) (s : Status) (a : Shown) → EndsReading s
+    → ComesAt AtInputs s → Judges healthy (run_of_hand names) s a → JudgesHand healthy names s a
+hand_refused healthy names status.Done a quiet early h = absurd quiet
+hand_refused healthy names (status.Refuted refutation) a quiet early h = absurd quiet
+hand_refused healthy names (status.Unready unready) a quiet early h = absurd quiet
+hand_refused healthy names status.BadWords a quiet early h = absurd quiet
+hand_refused healthy names status.ReadFault a quiet early h = h
+hand_refused healthy names status.WriteFault a quiet early h = absurd quiet
+hand_refused healthy names status.NoMemory a quiet early h = tt
+hand_refused healthy names (status.BadInput fault) a quiet early h = h
+hand_refused healthy names (status.TooLarge limit) a quiet early (inl first) = inl first
+hand_refused healthy names (status.TooLarge limit) a quiet early (inr (inputs, accepted, (report, released, at))) =
+    absurd (not_of_run (status.TooLarge limit) limit refl
+    (stops_are (setting_for inputs) at.there at.event limit at.world at.stops) early)
+
+-- An event that stops the run stops the hand-over.
+stops_longer : (inputs : Inputs) (limit : Limit) → StopsRun inputs limit → StopsHand inputs limit
+stops_longer inputs limit (report, released, at) = (
+  report,
+  released,
+  record {
+    before = at.before;
+    event = at.event;
+    after = at.after ++ resting;
+    events_are =
+        ap (λ (l : List Event). l ++ resting) at.events_are
+        ∙ append_assoc at.before (at.event ∷ at.after) resting;
+    there = at.there;
+    performs = at.performs;
+    world = at.world;
+    stops = at.stops;
+    released_is = at.released_is;
+  },
+)
+
+-- In a healthy world a hand-over that is accepted and passes no limit is done, or its system is not ready, or memory
+-- ran out.
+pub hand_completes : (healthy : Type 0) (names : HandNames) (shown : Shown) → healthy
+    → AreAcceptedForHand names shown → (s : Status) → JudgesHand healthy names s shown
+    → Completes s ⊎ ((unready : Unready) × (s ≡ status.Unready unready))
+hand_completes healthy names shown ok (x, a, within) = go
+  where
+    of_run : (s : Status) → Judges healthy (run_of_hand names) s shown
+        → Completes s ⊎ ((unready : Unready) × (s ≡ status.Unready unready))
+    of_run s h = inl (run_completes healthy (run_of_hand names) shown ok
+        (x, a, λ limit stops. within limit (stops_longer x limit stops)) s h)
+
+    go : (s : Status) → JudgesHand healthy names s shown
+        → Completes s ⊎ ((unready : Unready) × (s ≡ status.Unready unready))
+    go status.Done h = inl (inl refl)
+    go (status.Refuted refutation) h = absurd h
+    go (status.Unready unready) h = inr (unready, refl)
+    go status.BadWords h = absurd h
+    go status.ReadFault h = of_run status.ReadFault h
+    go status.WriteFault h = of_run status.WriteFault h
+    go status.NoMemory h = inl (inr refl)
+    go (status.BadInput fault) h = of_run (status.BadInput fault) h
+    go (status.TooLarge limit) (inl first) = of_run (status.TooLarge limit) (inl first)
+    go (status.TooLarge limit) (inr (y, b, stops)) =
+        absurd (within limit (subst (λ (i : Inputs). StopsHand i limit)
+        (inputs_one healthy (run_of_hand names) shown y x b a) stops))
+
+-- Other names
+
+pub hand_others : (names : HandNames) (a b : Shown) → HandsInOrder names a b → KeepsHandNames names a b
+hand_others names a b (inl kept) name one two = ap (λ f. f name) kept.names
+hand_others names a b (inr (inputs, accepted, (writes, is, begun))) name one two =
+    begun.written.names name
+    ∙ spared name begun.done (a.names name) (spare_cut name begun.done writes
+    (spare_hand (hand_outputs names) name one two (setting_for inputs) inputs.events writes is) begun.cut)

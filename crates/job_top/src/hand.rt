@@ -1,0 +1,121 @@
+ghost use Rattle.std.specs.Prelude.{◌≡◌, ◌+◌, ◌<◌, ◌≤◌, ◌-◌, ◌^◌, ◌++◌, Err, OnOk, IsErrOf};
+ghost use Rattle.plain_text.specs.declared.limit.Limit.{Limit as LimitKind};
+ghost use Rattle.world_io.specs.Stream.{Rose};
+ghost use Rattle.world_io.specs.World.{Start, WritingFailed};
+ghost use Rattle.handover_world.specs.declared.unready.Unready.{Unready as UnreadyKind};
+ghost use Rattle.input_files.specs.Files.{OpensAll, OpensFirst};
+ghost use Rattle.output_files.specs.Written.{WritesFiles};
+ghost use Rattle.run_writes.specs.Run.{CanRun, HasStopped, KeepsShown};
+ghost use Rattle.hand_command.specs.Hand.{HasBegunHand, HasHanded, IsNotReady, resting};
+ghost use Rattle.job_commands.specs.Run.{script_of, setting_for};
+ghost use Rattle.job_commands.specs.Status.{AtInputs, AtOutputs, IsRefusal, stage_of};
+ghost use Rattle.job_commands.specs.Status.{stage_of_limit};
+ghost use Rattle.job_commands.specs.HandWords.{hand_names_of};
+ghost use Rattle.job_commands.specs.Words.{hand_inputs};
+ghost use Rattle.job_top.specs.Hand.{HandsInOrder, HandsToLimit, HandsUnready, HandsWhole};
+ghost use Rattle.job_top.specs.Hand.{JudgesHand, hand_outputs};
+ghost use Rattle.job_top.specs.Headline.{KeepsHandPromise};
+
+use box_conf::BoxKind;
+use hand_command::{HandError, HandFiles, run_hand};
+use job_commands::{HandWords, Inputs, RunWords, Status, hand_outcome, read_inputs};
+use run_writes::ScriptRun;
+use std::alloc::Global;
+use world_io::World;
+
+/// Runs the box on the inputs, by the events of the script, and hands the system over.
+fn hand_box<W: World>(
+    alloc: Global,
+    world: &mut W,
+    names: HandWords<'_>,
+    inputs: Inputs,
+) -> Result<(), HandError>
+    requires inputs { CanRun (script_of inputs) }
+    requires room { (W.ledger world.old).given < 2 ^ 32 - 2 }
+    requires apart { names.released.now ≡ names.handover.now → ⊥ }
+    ensures whole { (p : Start) → W.honest p world.new → OnOk result (HasHanded
+        (setting_for inputs) (hand_outputs (hand_names_of names.entry)) inputs.events
+        (W.shows p world.old) (W.shows p world.new)) }
+    ensures unready { (p : Start) → W.honest p world.new → (unready : UnreadyKind)
+        → result ≡ Err (HandError.Unready unready) → IsNotReady
+        (setting_for inputs) (hand_outputs (hand_names_of names.entry)) inputs.events
+        unready (W.shows p world.old) (W.shows p world.new) }
+    ensures limit { (p : Start) → W.honest p world.new → (limit : LimitKind)
+        → result ≡ Err (HandError.Limit limit) → HasStopped
+        (setting_for inputs) (hand_outputs (hand_names_of names.entry)) (inputs.events ++ resting)
+        limit (W.shows p world.old) (W.shows p world.new) }
+    ensures in_order { (p : Start) → W.honest p world.new → HasBegunHand
+        (setting_for inputs) (hand_outputs (hand_names_of names.entry)) inputs.events
+        (W.shows p world.old) (W.shows p world.new) }
+    ensures writes_files { WritesFiles W.ledger W.healthy 2 world.old world.new }
+    ensures cause { IsErrOf result HandError.WriteFault
+        → WritingFailed W.ledger W.healthy world.old world.new }
+    ensures before { (p : Start) → W.honest p world.new → W.honest p world.old }
+{
+    let files = HandFiles {
+        released: names.released,
+        handover: names.handover,
+    };
+    let run = ScriptRun {
+        threads: inputs.conf.threads,
+        seed: inputs.conf.seed,
+        unit: inputs.capture.unit,
+        packets: inputs.capture.packets,
+        events: inputs.events,
+    };
+    match inputs.conf.kind {
+        BoxKind::Count(count) => run_hand(alloc, world, files, run, count),
+        BoxKind::Monitor(monitor) => run_hand(alloc, world, files, run, monitor),
+        BoxKind::Nat(nat) => run_hand(alloc, world, files, run, nat),
+        BoxKind::Balancer(balancer) => run_hand(alloc, world, files, run, balancer),
+    }
+}
+
+/// The command `hand`: all input files are judged before an output is created.
+pub(crate) fn hand<W: World>(alloc: Global, world: &mut W, names: HandWords<'_>) -> Status
+    requires room { (W.ledger world.old).given < 2 ^ 31 }
+    requires apart { names.released.now ≡ names.handover.now → ⊥ }
+    ensures done { (p : Start) → W.honest p world.new → result ≡ Status.Done → HandsWhole
+        (hand_names_of names.entry) (W.shows p world.old) (W.shows p world.new) }
+    ensures headline { (p : Start) → W.honest p world.new → result ≡ Status.Done
+        → KeepsHandPromise (hand_names_of names.entry)
+        (W.shows p world.old) (W.shows p world.new) }
+    ensures unready { (p : Start) → W.honest p world.new → (unready : UnreadyKind)
+        → result ≡ Status.Unready unready → HandsUnready
+        (hand_names_of names.entry) unready (W.shows p world.old) (W.shows p world.new) }
+    ensures limit { (p : Start) → W.honest p world.new → (limit : LimitKind)
+        → result ≡ Status.TooLarge limit → stage_of_limit limit ≡ AtOutputs → HandsToLimit
+        (hand_names_of names.entry) limit (W.shows p world.old) (W.shows p world.new) }
+    ensures judged { (p : Start) → W.honest p world.new → JudgesHand (W.healthy world.old)
+        (hand_names_of names.entry) result (W.shows p world.old) }
+    ensures in_order { (p : Start) → W.honest p world.new → HandsInOrder
+        (hand_names_of names.entry) (W.shows p world.old) (W.shows p world.new) }
+    ensures refused { (p : Start) → W.honest p world.new → stage_of result ≡ AtInputs
+        → KeepsShown (W.shows p world.old) (W.shows p world.new) }
+    ensures creates_nothing { IsRefusal result
+        → (W.ledger world.new).created ≡ (W.ledger world.old).created }
+    ensures words { result ≡ Status.BadWords → ⊥ }
+    ensures opens_in_order { OpensFirst (hand_inputs (hand_names_of names.entry))
+        (W.ledger world.old) (W.ledger world.new) }
+    ensures opens_all { result ≡ Status.Done → OpensAll (hand_inputs
+        (hand_names_of names.entry)) (W.ledger world.old) (W.ledger world.new) }
+    ensures given { (W.ledger world.new).given ≤ (W.ledger world.old).given + 5 }
+    ensures read_fault { result ≡ Status.ReadFault
+        → Rose (W.ledger world.old).read_faults (W.ledger world.new).read_faults }
+    ensures write_fault { result ≡ Status.WriteFault
+        → WritingFailed W.ledger W.healthy world.old world.new }
+    ensures before { (p : Start) → W.honest p world.new → W.honest p world.old }
+{
+    // The text of the handover stands where a run has its schedule.
+    let run = RunWords {
+        box_file: names.box_file,
+        capture: names.capture,
+        script: names.script,
+        released: names.released,
+        schedule: names.handover,
+    };
+    match read_inputs(alloc, world, run) {
+        Ok(inputs) => hand_outcome(hand_box(alloc, world, names, inputs)),
+        Err(status) => status,
+    }
+}
