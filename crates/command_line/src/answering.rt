@@ -9,11 +9,11 @@ ghost use Rattle.world_io.specs.World.{Start, WritingFailed};
 
 use crate::{Request, help, read_request, version};
 use job_commands::Status;
-use job_top::ftmb;
 use output_files::{OutputError, report};
 use plain_text::Text;
 use std::sync::Wait;
 use std::thread::Threads;
+use tap_command::ftmb;
 use var_locks::Gate;
 use world_io::{Clock, World};
 

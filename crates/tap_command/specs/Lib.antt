@@ -1,1 +1,2 @@
+pub use Rattle.job_top.specs.Answers
 pub mod Split

@@ -5,8 +5,7 @@ ghost use Rattle.job_top.specs.Answers.{Answers};
 ghost use Rattle.tap_command.specs.Split.{AsksForTaps, behind_pairs, released_name};
 
 use crate::split::{mirrored_name, run_line};
-use job_commands::Status;
-use job_top::ftmb;
+use job_top::{Status, ftmb};
 use plain_text::{NoMemory, Text};
 use release_taps::{Seating, Tap, TapWorld, Untapped};
 use std::marker::Brand;

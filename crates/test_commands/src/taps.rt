@@ -3,7 +3,6 @@ ghost use Rattle.std.specs.Prelude.{◌≡◌, length, IfOk, OnOk};
 ghost use Rattle.release_taps.specs.Recorded.{AreUnused};
 
 use crate::commands::{Fault, add_fault, add_files, texts_of};
-use job_top::Status;
 use plain_text::{NoMemory, Text};
 use release_taps::{MemoryTap, Shown, Tap};
 use sample_frames::{ONE_COUNTED, ONE_PACKET};
@@ -11,7 +10,7 @@ use std::alloc::Global;
 use std::sync::Wait;
 use std::test::Fail;
 use std::thread::Threads;
-use tap_command::{MOST_TAPS, Split, TappedRun, split_taps, tapped};
+use tap_command::{MOST_TAPS, Split, Status, TappedRun, split_taps, tapped};
 use var_locks::OpenGate;
 use world_io::{FixedClock, MemoryWorld};
 
