@@ -1,7 +1,8 @@
 //! Threads that touch variables of a small box, with a master alone or under numbered locks.
-ghost use Rattle.std.specs.Prelude.{◌<◌, ◌≤◌};
+ghost use Rattle.plain_text.specs.Packets.{IsShort};
+ghost use Rattle.std.specs.Prelude.{◌<◌, ◌≤◌, IfOk};
 
-mod touch_box;
+pub mod touch_box;
 
 use crate::done::Done;
 use crate::inputs::Again;
@@ -17,7 +18,9 @@ use std::thread::Threads;
 use touch_box::TouchBox;
 
 /// A packet of 60 bytes, of which the first says which variable it touches.
-fn packet_of(alloc: Global, var: u8) -> Result<Packet, NoMemory> {
+pub fn packet_of(alloc: Global, var: u8) -> Result<Packet, NoMemory>
+    ensures { IfOk result IsShort }
+{
     let mut bytes = [0; 60];
     bytes[0] = var;
     Ok(Packet {

@@ -1,6 +1,8 @@
 //! The benchmark. The first word says which work, and the other words what it is done with:
 //!
 //! - `frames COUNT TIMES`: COUNT frames of log entries, each read TIMES times
+//! - `handovers COUNT WRITES RESUMES`: the image of a system that settled COUNT packets of 63 moves, written WRITES times
+//!   as a text, from which RESUMES systems go on
 //! - `headers CHECKSUMS REWRITINGS`: the checksums of CHECKSUMS payloads, and REWRITINGS rewritings of a frame
 //! - `held COUNT`: COUNT log entries of each of two threads, into a held set
 //! - `locks step|locks THREADS own|one COUNT`: touches by a master alone or by threads that race, on variables of their
@@ -19,6 +21,7 @@
 
 mod done;
 mod frames;
+mod handovers;
 mod headers;
 mod held;
 mod inputs;
@@ -42,8 +45,9 @@ use std::thread::Threads;
 use words::words_of;
 
 /// Each work with the other words of its sample.
-const SAMPLES: [(&str, &str); 9] = [
+const SAMPLES: [(&str, &str); 10] = [
     ("frames", "1000 2"),
+    ("handovers", "10 2 2"),
     ("headers", "1000 1000"),
     ("held", "1000"),
     ("locks", "locks 2 own 10"),
@@ -62,6 +66,7 @@ fn perform<R: AllocGlobal + Print + Threads + Wait + Sync>(
 ) -> anyhow::Result<()> {
     match work {
         "frames" => frames::run(rt, words),
+        "handovers" => handovers::run(rt, words),
         "headers" => headers::run(rt, words),
         "held" => held::run(rt, words),
         "locks" => locks::run(rt, words),
