@@ -9,7 +9,7 @@ use crate::words::next_number;
 use anyhow::{anyhow, ensure};
 use handover::{Image, put_image, read_image};
 use plain_text::{Bytes, MOST_PACKETS, NoMemory, Packets, Unit};
-use recovery_core::System;
+use recovery_core::{Stop, System};
 use recovery_world::Event;
 use std::alloc::Global;
 use std::env::Args;
@@ -25,15 +25,27 @@ fn touching_packets(alloc: Global, count: u64) -> Result<Packets, NoMemory>
     Ok(packets)
 }
 
+/// Settles all packets and brings the system to rest, as a handover does.
+fn come_to_rest(system: &mut System<TouchBox>) -> Result<(), Stop>
+    requires { system.old.stopped ≡ false }
+{
+    system.on(&Event::Settle)?;
+    system.on(&Event::Snap)?;
+    system.on(&Event::Store)?;
+    system.on(&Event::Crash)?;
+    system.on(&Event::Recover)?;
+    Ok(())
+}
+
 /// The image of a system that has settled these packets.
 fn image_of(alloc: Global, packets: Packets) -> anyhow::Result<Image>
     requires { All IsShort packets }
 {
     let mut system = System::new(alloc, TouchBox::new(), 1, 0, Unit::Micro, packets)?;
-    let settled = system.on(&Event::Settle);
+    let rested = come_to_rest(&mut system);
     let image = system.image();
     system.discard();
-    if let Err(stop) = settled {
+    if let Err(stop) = rested {
         return Err(anyhow!("{stop:?}"));
     }
     Ok(image?)
