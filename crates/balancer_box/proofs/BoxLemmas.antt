@@ -1,6 +1,6 @@
 -- A box whose settings are in range is the one with these settings.
 use Rattle.std.proofs.Common.{◌≡◌, ℕ, ◌≤◌, List, [], ◌∷◌, length, refl, ap, ◌∙◌, subst, arith}
-use Rattle.std.specs.Prelude.{take, min, max}
+use Rattle.std.specs.Prelude.{take, min, max, None}
 use Rattle.std.specs.Coded.{le_prop}
 use Rattle.std.proofs.lemmas.List.{take_all}
 use Rattle.balancer_box.specs.declared.backends.Backend.{Backend}
@@ -26,6 +26,7 @@ same_box : (address port shards : ℕ) (backends : List Backend) (some x : 1 ≤
       address = address;
       port = port;
       backends = backends;
+      closing = None;
       some = some;
       few = few;
       some_backends = some_backends;
@@ -36,6 +37,7 @@ same_box : (address port shards : ℕ) (backends : List Backend) (some x : 1 ≤
       address = address;
       port = port;
       backends = backends;
+      closing = None;
       some = x;
       few = y;
       some_backends = z;
@@ -48,6 +50,7 @@ same_box address port shards backends some x few y some_backends z few_backends 
       address = address;
       port = port;
       backends = backends;
+      closing = None;
       some = le_prop some x i;
       few = le_prop few y i;
       some_backends = le_prop some_backends z i;
@@ -63,6 +66,7 @@ IsWith address port shards backends box =
       address = address;
       port = port;
       backends = backends;
+      closing = None;
       some = some;
       few = few;
       some_backends = some_backends;
@@ -77,6 +81,7 @@ pub box_is : (shards address port : ℕ) (backends : List Backend) (some : 1 ≤
       address = address;
       port = port;
       backends = backends;
+      closing = None;
       some = some;
       few = few;
       some_backends = some_backends;

@@ -1,7 +1,7 @@
 -- The load of each backend is its charge after each move of each run.
 use Rattle.std.proofs.Common.{◌≡◌, ℕ, ◌+◌, ◌-◌, ◌%◌, ◌^◌, ◌<◌, Bool, true, false, List, [], ◌∷◌, length, refl, sym, ap}
 use Rattle.std.proofs.Common.{◌∙◌, subst, ◌⊎◌, inl, inr, arith, Option, Some, None}
-use Rattle.std.specs.Prelude.{nat_eq, cond, ◌==◌, ◌&&◌, slice_index, Result, Ok, Err}
+use Rattle.std.specs.Prelude.{nat_eq, cond, ◌==◌, ◌&&◌, not, if◌then◌else◌, ◌++◌, slice_index, Result, Ok, Err}
 use Rattle.std.proofs.lemmas.Bool.{eqb-true}
 use Rattle.std.proofs.lemmas.List.{get_or-replicate}
 use Rattle.plain_text.specs.declared.packet.Packet.{Packet}
@@ -17,34 +17,43 @@ use Rattle.plain_machine.proofs.Histories.{not_eq, is_eq}
 use Rattle.plain_machine.proofs.Bounds.{values_fit}
 use Rattle.nat_tables.specs.Ports.{one_if}
 use Rattle.nat_tables.specs.Forwards.{Forwards, is_idle, slot_of, refreshed, refresh, first_idle, found_there, found}
-use Rattle.nat_tables.specs.Forwards.{bound, lives, total}
-use Rattle.nat_tables.proofs.Counting.{total_refresh, total_without, total_without_idle, total_append}
+use Rattle.nat_tables.specs.Forwards.{bound, lives, lives_at, in_phase, without, without_idle, AreMappings}
+use Rattle.nat_tables.proofs.Keeping.{may_slot, may_idle}
 use Rattle.flow_boxes.proofs.Summing.{one_changes, sum_of_none}
+use Rattle.flow_boxes.proofs.Fitting.{same_self}
 use Rattle.nat_tables.specs.declared.entries.Endpoint.{Endpoint}
 use Rattle.nat_tables.specs.declared.slot.Slot.{Slot}
+use Rattle.nat_tables.specs.declared.phase.Phase.{Phase}
 use Rattle.nat_tables.specs.declared.phase.Phase.TheVariants.{Plain}
 use Rattle.balancer_box.specs.declared.place.Place.{Place}
 use Rattle.balancer_box.specs.declared.place.Place.TheVariants.{HearsTime, FindsConnection, LowersIdle, RaisesLeast}
 use Rattle.balancer_box.specs.declared.place.Place.TheVariants.{Connects, LowersSpare, ChecksConnection, CountsDrop}
-use Rattle.balancer_box.specs.declared.place.Place.TheVariants.{SendsOut, Ends}
+use Rattle.balancer_box.specs.declared.place.Place.TheVariants.{SendsOut, LowersVain, Ends}
 use Rattle.balancer_box.specs.declared.place.Class.{Class}
 use Rattle.balancer_box.specs.declared.place.Class.TheVariants.{Client, Answer}
+use Rattle.balancer_box.specs.declared.place.Tells.{Tells}
 use Rattle.balancer_box.specs.declared.place.Noted.{Noted}
 use Rattle.balancer_box.specs.declared.value.BalancerValue.{BalancerValue}
 use Rattle.balancer_box.specs.declared.value.BalancerValue.TheVariants.{Dropped, Loaded, Connected}
 use Rattle.balancer_box.specs.declared.place.Goes.{Goes}
 use Rattle.balancer_box.specs.Loads.{raised, lowered, least_loaded, no_loads}
-use Rattle.balancer_box.specs.Connections.{closed, without_if}
+use Rattle.balancer_box.specs.Connections.{closed, without_if, has_ended}
 use Rattle.balancer_box.specs.Places.{place_numbered}
 use Rattle.balancer_box.specs.Balancer.{Settings, next_move, is_virtual, backend_at, begun_answer, begun_flow, begun}
 use Rattle.balancer_box.specs.Balancer.{begins, goes_to, after_find, after_bind, after_check, touched, after_time, told}
+use Rattle.balancer_box.specs.Balancer.{tells_by, heard, phase_then, ends, noting, after_idle, opens, gives_way, met}
+use Rattle.balancer_box.specs.Balancer.{met_there, met_by, new_slot, gives_up, connected_by, checked_there, checked_by}
+use Rattle.balancer_box.specs.Balancer.{finds, connects, checks, MayConnect}
 use Rattle.balancer_box.specs.Balancer.{local_at, fresh_value, noted_by, balancer_meaning, Fits}
 use Rattle.balancer_box.specs.Noting.{place_again, IsNoted, is_noted, noted_again}
 use Rattle.balancer_box.specs.Lawful.{AreSettings, var_of, touches_it, below_all, balancer_lawful}
-use Rattle.balancer_box.specs.Charges.{load_in, of_backend, connections_of, owed, in_hand, in_values, in_hands, charge}
-use Rattle.balancer_box.specs.Charges.{IsCharged, LoadsAreCharges}
+use Rattle.balancer_box.specs.Charges.{load_in, of_backend, counted, connections_of, owed, in_hand, in_values}
+use Rattle.balancer_box.specs.Charges.{in_hands, charge, IsCharged, LoadsAreCharges}
 use Rattle.balancer_box.proofs.LoadLemmas.{raised_here, raised_other, lowered_here, lowered_other, one_up, one_down}
-use Rattle.balancer_box.proofs.ConnectionLemmas.{slot_refreshed, lives_there}
+use Rattle.balancer_box.proofs.ConnectionLemmas.{slot_refreshed, slot_appended, lives_there}
+use Rattle.balancer_box.proofs.CountLemmas.{counts_for, counts_none, counts_plain, plain_of, stays_ended}
+use Rattle.balancer_box.proofs.CountLemmas.{counted_refresh, counted_in_phase, counted_without}
+use Rattle.balancer_box.proofs.CountLemmas.{counted_without_idle, counted_append}
 use Rattle.balancer_box.proofs.Noting.{touched_noted}
 use Rattle.balancer_box.proofs.Making.{goes_on, Made, made}
 
@@ -52,6 +61,7 @@ use Rattle.balancer_box.proofs.Making.{goes_on, Made, made}
 abbrev OwesNone : Place → Type 0
 OwesNone LowersIdle = ⊥
 OwesNone Connects = ⊥
+OwesNone LowersVain = ⊥
 OwesNone LowersSpare = ⊥
 OwesNone _ = Unit {0}
 
@@ -61,6 +71,7 @@ owes_none i FindsConnection n h = refl
 owes_none i LowersIdle n h = absurd h
 owes_none i RaisesLeast n h = refl
 owes_none i Connects n h = absurd h
+owes_none i LowersVain n h = absurd h
 owes_none i LowersSpare n h = absurd h
 owes_none i ChecksConnection n h = refl
 owes_none i CountsDrop n h = refl
@@ -73,6 +84,7 @@ clock_owes_none s FindsConnection n e = absurd (cc)
 clock_owes_none s LowersIdle n e = absurd (cc)
 clock_owes_none s RaisesLeast n e = absurd (cc)
 clock_owes_none s Connects n e = absurd (cc)
+clock_owes_none s LowersVain n e = absurd (cc)
 clock_owes_none s LowersSpare n e = absurd (cc)
 clock_owes_none s ChecksConnection n e = absurd (cc)
 clock_owes_none s CountsDrop n e = absurd (cc)
@@ -85,6 +97,7 @@ emit_owes_none s FindsConnection n e = absurd (cc)
 emit_owes_none s LowersIdle n e = absurd (cc)
 emit_owes_none s RaisesLeast n e = absurd (cc)
 emit_owes_none s Connects n e = absurd (cc)
+emit_owes_none s LowersVain n e = absurd (cc)
 emit_owes_none s LowersSpare n e = absurd (cc)
 emit_owes_none s ChecksConnection n e = absurd (cc)
 emit_owes_none s CountsDrop n e = absurd (cc)
@@ -97,6 +110,7 @@ end_owes_none s FindsConnection n e = absurd (cc)
 end_owes_none s LowersIdle n e = absurd (cc)
 end_owes_none s RaisesLeast n e = absurd (cc)
 end_owes_none s Connects n e = absurd (cc)
+end_owes_none s LowersVain n e = absurd (cc)
 end_owes_none s LowersSpare n e = absurd (cc)
 end_owes_none s ChecksConnection n e = absurd (cc)
 end_owes_none s CountsDrop n e = absurd (cc)
@@ -113,6 +127,7 @@ told_owes_none FindsConnection a n = tt
 told_owes_none LowersIdle a n = tt
 told_owes_none RaisesLeast a n = tt
 told_owes_none Connects a n = tt
+told_owes_none LowersVain a n = tt
 told_owes_none LowersSpare a n = tt
 told_owes_none ChecksConnection a n = tt
 told_owes_none CountsDrop a n = tt
@@ -123,11 +138,14 @@ begun_owes_none : (s : Settings) (seen : Result Flow NotFlow) → OwesNone (begu
 begun_owes_none s (Err answer) = tt
 begun_owes_none s (Ok flow) = by (is_virtual s flow.dest flow.dest_port) refl
   where
-    by_backend : (o : Option ℕ) → OwesNone (begun_answer flow o).place
+    tells : Tells
+    tells = tells_by s.closing flow.flags
+
+    by_backend : (o : Option ℕ) → OwesNone (begun_answer tells flow o).place
     by_backend (Some backend) = tt
     by_backend None = tt
 
-    by : (b : Bool) → is_virtual s flow.dest flow.dest_port ≡ b → OwesNone (begun_flow s flow).place
+    by : (b : Bool) → is_virtual s flow.dest flow.dest_port ≡ b → OwesNone (begun_flow s tells flow).place
     by true q = rw q tt
     by false q = rw q (by_backend (backend_at s.backends flow.source flow.source_port))
 
@@ -152,78 +170,249 @@ Down i x p n r =
 abbrev Balanced : ℕ → ℕ → BalancerValue → Place → Noted → BalancerValue × Goes → Type 0
 Balanced v i x p n r = Even i x p n r ⊎ ((v ≡ 1) × (Up i x p n r ⊎ Down i x p n r))
 
-module _ (i : ℕ) (n : Noted) (es : Forwards) where
-  begins_even : (b : Bool) → owed i (begins n b).place (begins n b).noted ≡ 0
-  begins_even true = refl
-  begins_even false = refl
+sum_none : (k : ℕ) → k + 0 ≡ k
+sum_none k = omega arith
 
+and_left : (a b : Bool) → (a && b) ≡ true → a ≡ true
+and_left true b e = refl
+and_left false b e = absurd (cc)
+
+begins_even : (i : ℕ) (n : Noted) (b : Bool) → owed i (begins n b).place (begins n b).noted ≡ 0
+begins_even i n true = refl
+begins_even i n false = refl
+
+-- A touch of a connection table: the connections of the backend after it, and what the packet owes then, come to this
+
+abbrev CountTo : ℕ → ℕ → Forwards × Goes → Type 0
+CountTo i sum r = counted i r.0 + owed i r.1.place r.1.noted ≡ sum
+
+-- where connections are not followed, none has ended
+module _ (i : ℕ) (n : Noted) (es : Forwards)
+    (plain : (slot : Slot) → slot_of n.client es ≡ Some slot → slot.phase ≡ Plain)
+    (plain_idle : (e : Endpoint × Slot) → first_idle n.time es ≡ Some e → e.1.phase ≡ Plain) where
   -- a connection that was found is used, and closed where the packet resets it
-  closed_even : (slot : Slot) (b : Bool) (left : Forwards) → slot_of n.client left ≡ Some slot
-      → total (of_backend i) left ≡ total (of_backend i) es
-      → total (of_backend i) (without_if b n.client left)
-      + owed i (goes_to n b slot.port).place (goes_to n b slot.port).noted
-      ≡ total (of_backend i) es
-  closed_even slot true left at same = let a = total_without (of_backend i) n.client slot left at in a ∙ same
-  closed_even slot false left at same = omega arith
+  closed_even : (slot : Slot) (b : Bool) (left : Forwards) → slot_of n.client left ≡ Some slot → slot.phase ≡ Plain
+      → counted i left ≡ counted i es
+      → CountTo i (counted i es) (without_if b n.client left, goes_to n b slot.port)
+  closed_even slot true left at is same =
+      let a = counted_without i n.client slot left at in
+      let c = counts_plain i slot is in ap (λ (k : ℕ). counted i (without n.client left) + k) (sym c) ∙ a ∙ same
+  closed_even slot false left at is same = sum_none (counted i left) ∙ same
 
   there_even : (slot : Slot) (idle : Bool) → slot_of n.client es ≡ Some slot
       → (let f = found_there n.client n.time es slot idle in
-      total (of_backend i) (closed f.0 n.resets n.client f.1) + owed i (after_find n f.0).place (after_find n f.0).noted
-      ≡ total (of_backend i) es)
-  there_even slot true at = total_without (of_backend i) n.client slot es at
+      CountTo i (counted i es) (closed f.0 n.resets n.client f.1, after_find n f.0))
+  there_even slot true at =
+      let a = counted_without i n.client slot es at in
+      let c = counts_plain i slot (plain slot at) in
+      ap (λ (k : ℕ). counted i (without n.client es) + k) (sym c) ∙ a
   there_even slot false at =
       closed_even (refreshed n.time slot) n.resets (refresh n.client n.time es)
-      (slot_refreshed n.client n.time slot es at) (total_refresh (of_backend i) n.client n.time es)
+      (slot_refreshed n.client n.time slot es at) (plain slot at) (counted_refresh i n.client n.time es)
 
   found_even : (a : Option Slot) (b : Option (Endpoint × Slot)) → slot_of n.client es ≡ a → first_idle n.time es ≡ b
       → (let f = found n.client n.time es a b in
-      total (of_backend i) (closed f.0 n.resets n.client f.1) + owed i (after_find n f.0).place (after_find n f.0).noted
-      ≡ total (of_backend i) es)
+      CountTo i (counted i es) (closed f.0 n.resets n.client f.1, after_find n f.0))
   found_even (Some slot) b at first = there_even slot (is_idle n.time (n.client, slot)) at
-  found_even None (Some gone) at first = total_without_idle (of_backend i) n.time gone es first
-  found_even None None at first = let a = begins_even n.resets in omega arith
+  found_even None (Some gone) at first =
+      let a = counted_without_idle i n.time gone es first in
+      let c = counts_plain i gone.1 (plain_idle gone first) in
+      ap (λ (k : ℕ). counted i (without_idle n.time es) + k) (sym c) ∙ a
+  found_even None None at first =
+      ap (λ (k : ℕ). counted i es + k) (begins_even i n n.resets) ∙ sum_none (counted i es)
 
   bound_even : (a : Option Slot) → slot_of n.client es ≡ a
       → (let b = bound n.client n.backend n.time es a in
-      total (of_backend i) b.1 + owed i (after_bind n b.0).place (after_bind n b.0).noted
-      ≡ total (of_backend i) es + one_if (n.backend == i))
-  bound_even (Some slot) at = let a = total_refresh (of_backend i) n.client n.time es in omega arith
+      CountTo i (counted i es + one_if (n.backend == i)) (b.1, after_bind n b.0))
+  bound_even (Some slot) at =
+      ap (λ (k : ℕ). k + one_if (n.backend == i)) (counted_refresh i n.client n.time es)
   bound_even None at =
-      let a = total_append (of_backend i) n.client (record { port = n.backend; last = n.time; phase = Plain }) es in
-      omega arith
+      sum_none (counted i (es ++ (n.client, new_slot n) ∷ [])) ∙ counted_append i n.client (new_slot n) es
 
   live_even : (slot : Slot) → slot_of n.client es ≡ Some slot → slot.port ≡ n.backend
-      → total (of_backend i) (without_if n.resets n.client es)
-      + owed i (goes_to n n.resets n.backend).place (goes_to n n.resets n.backend).noted
-      ≡ total (of_backend i) es
+      → CountTo i (counted i es) (without_if n.resets n.client es, goes_to n n.resets n.backend)
   live_even slot at is =
-      subst (λ (k : ℕ).
-      total (of_backend i) (without_if n.resets n.client es)
-      + owed i (goes_to n n.resets k).place (goes_to n n.resets k).noted
-      ≡ total (of_backend i) es) is (closed_even slot n.resets es at refl)
+      subst (λ (k : ℕ). CountTo i (counted i es) (without_if n.resets n.client es, goes_to n n.resets k)) is
+      (closed_even slot n.resets es at (plain slot at) refl)
 
   check_even : (b : Bool) → lives n.client n.backend n.time es ≡ b
-      → total (of_backend i) (without_if (b && n.resets) n.client es)
-      + owed i (after_check n b).place (after_check n b).noted
-      ≡ total (of_backend i) es
-  check_even false is = omega arith
+      → CountTo i (counted i es) (without_if (b && n.resets) n.client es, after_check n b)
+  check_even false is = sum_none (counted i es)
   check_even true is =
       let there = lives_there n.client n.backend n.time es (slot_of n.client es) refl is in
       live_even there.0 there.1 there.2
 
+-- where they are followed
+module _ (i seconds : ℕ) (n : Noted) where
+  abbrev owed_if : Bool → ℕ → ℕ
+  owed_if b backend = if b then one_if (backend == i) else 0
+
+  goes_owes : (b : Bool) (backend : ℕ) → owed i (goes_to n b backend).place (goes_to n b backend).noted
+      ≡ owed_if b backend
+  goes_owes true backend = refl
+  goes_owes false backend = refl
+
+  gives_owes : (b : Bool) (backend : ℕ) → owed i (gives_up n b backend).place (gives_up n b backend).noted
+      ≡ one_if (n.backend == i) + owed_if b backend
+  gives_owes true backend = refl
+  gives_owes false backend = sym (sum_none (one_if (n.backend == i)))
+
+  -- the connection notes what the packet tells: the packet owes where it ended the connection
+  noting_even : (slot : Slot) (left : Forwards) → slot_of n.client left ≡ Some slot
+      → counted i (noting seconds n slot left) + owed_if (ends seconds n slot) slot.port ≡ counted i left
+  noting_even slot left at = by (has_ended slot.phase) (has_ended new) refl refl
+    where
+      new : Phase
+      new = phase_then seconds n slot.phase
+
+      one : ℕ
+      one = one_if (slot.port == i)
+
+      sums : (before after old left_of owes : ℕ) → after + old ≡ before + left_of → left_of + owes ≡ old
+          → after + owes ≡ before
+      sums before after old left_of owes moved same = omega arith
+
+      both : of_backend i (in_phase new slot) + owed_if (ends seconds n slot) slot.port ≡ of_backend i slot
+          → counted i (noting seconds n slot left) + owed_if (ends seconds n slot) slot.port ≡ counted i left
+      both same = sums (counted i left) (counted i (noting seconds n slot left)) (of_backend i slot)
+          (of_backend i (in_phase new slot)) (owed_if (ends seconds n slot) slot.port)
+          (counted_in_phase i n.client new slot left at) same
+
+      by : (a b : Bool) → has_ended slot.phase ≡ a → has_ended new ≡ b
+          → counted i (noting seconds n slot left) + owed_if (ends seconds n slot) slot.port ≡ counted i left
+      by false false p q =
+          let x : of_backend i slot ≡ one = counts_for i slot p in
+          let y : of_backend i (in_phase new slot) ≡ one = counts_for i (in_phase new slot) q in
+          let w : owed_if (ends seconds n slot) slot.port ≡ 0 = rw (p, q) refl in
+          both (omega (arith, x, y, w))
+      by false true p q =
+          let x : of_backend i slot ≡ one = counts_for i slot p in
+          let y : of_backend i (in_phase new slot) ≡ 0 = counts_none i (in_phase new slot) q in
+          let w : owed_if (ends seconds n slot) slot.port ≡ one = rw (p, q) refl in
+          both (omega (arith, x, y, w))
+      by true true p q =
+          let x : of_backend i slot ≡ 0 = counts_none i slot p in
+          let y : of_backend i (in_phase new slot) ≡ 0 = counts_none i (in_phase new slot) q in
+          let w : owed_if (ends seconds n slot) slot.port ≡ 0 = rw p refl in
+          both (omega (arith, x, y, w))
+      by true false p q = absurd (let z : has_ended new ≡ true = stays_ended seconds n slot.phase p in cc)
+
+  -- a connection that is not idle, noted in a table that has as many
+  used_even : (slot : Slot) (left : Forwards) (backend sum : ℕ) → slot_of n.client left ≡ Some slot
+      → slot.port ≡ backend → counted i left ≡ sum
+      → CountTo i sum (noting seconds n slot left, goes_to n (ends seconds n slot) backend)
+  used_even slot left backend sum at is same =
+      ap (λ (k : ℕ). counted i (noting seconds n slot left) + k)
+      (goes_owes (ends seconds n slot) backend
+      ∙ ap (λ (k : ℕ). owed_if (ends seconds n slot) k) (sym is)) ∙ noting_even slot left at ∙ same
+
+  -- one that was removed, and had not ended, is owed
+  idle_owes : (slot : Slot) → owed i (after_idle n slot.port (has_ended slot.phase)).place
+      (after_idle n slot.port (has_ended slot.phase)).noted
+      ≡ of_backend i slot
+  idle_owes slot = by (has_ended slot.phase) refl
+    where
+      by : (b : Bool) → has_ended slot.phase ≡ b
+          → owed i (after_idle n slot.port b).place (after_idle n slot.port b).noted ≡ of_backend i slot
+      by true q = begins_even i n n.resets ∙ sym (counts_none i slot q)
+      by false q = sym (counts_for i slot q)
+
+  module _ (es : Forwards) where
+    met_even : (slot : Slot) (b : Bool) → slot_of n.client es ≡ Some slot → gives_way n slot ≡ b
+        → CountTo i (counted i es) (met seconds n es slot b)
+    met_even slot true at way =
+        let ended : has_ended slot.phase ≡ true = and_left (has_ended slot.phase) (opens (heard n)) way in
+        ap (λ (k : ℕ). counted i (without n.client es) + k)
+        (begins_even i n n.resets ∙ sym (counts_none i slot ended)) ∙ counted_without i n.client slot es at
+    met_even slot false at way =
+        used_even (refreshed n.time slot) (refresh n.client n.time es) slot.port (counted i es)
+        (slot_refreshed n.client n.time slot es at) refl (counted_refresh i n.client n.time es)
+
+    met_there_even : (slot : Slot) (b : Bool) → slot_of n.client es ≡ Some slot
+        → CountTo i (counted i es) (met_there seconds n es slot b)
+    met_there_even slot true at =
+        ap (λ (k : ℕ). counted i (without n.client es) + k) (idle_owes slot) ∙ counted_without i n.client slot es at
+    met_there_even slot false at = met_even slot (gives_way n slot) at refl
+
+    met_by_even : (o : Option Slot) (idle : Option (Endpoint × Slot)) → slot_of n.client es ≡ o
+        → first_idle n.time es ≡ idle → CountTo i (counted i es) (met_by seconds n es o idle)
+    met_by_even (Some slot) idle at first = met_there_even slot (is_idle n.time (n.client, slot)) at
+    met_by_even None (Some e) at first =
+        ap (λ (k : ℕ). counted i (without_idle n.time es) + k) (idle_owes e.1)
+        ∙ counted_without_idle i n.time e es first
+    met_by_even None None at first =
+        ap (λ (k : ℕ). counted i es + k) (begins_even i n n.resets) ∙ sum_none (counted i es)
+
+    connected_even : (o : Option Slot) → slot_of n.client es ≡ o
+        → CountTo i (counted i es + one_if (n.backend == i)) (connected_by seconds n es o)
+    connected_even (Some slot) at =
+        let left : Forwards = refresh n.client n.time es in
+        let kept = noting_even (refreshed n.time slot) left (slot_refreshed n.client n.time slot es at) in
+        sums (counted i (noting seconds n slot left)) (owed_if (ends seconds n slot) slot.port) (counted i left)
+        (counted i es) (one_if (n.backend == i))
+        (owed i (gives_up n (ends seconds n slot) slot.port).place
+        (gives_up n (ends seconds n slot) slot.port).noted) kept (counted_refresh i n.client n.time es)
+        (gives_owes (ends seconds n slot) slot.port)
+      where
+        sums : (new owes left before one given : ℕ) → new + owes ≡ left → left ≡ before → given ≡ one + owes
+            → new + given ≡ before + one
+        sums new owes left before one given kept same gives = omega arith
+    connected_even None at =
+        used_even (new_slot n) (es ++ (n.client, new_slot n) ∷ []) n.backend (counted i es + one_if (n.backend == i))
+        (slot_appended n.client (new_slot n) es at (same_self n.client)) refl
+        (counted_append i n.client (new_slot n) es)
+
+    checked_even : (o : Option Slot) → slot_of n.client es ≡ o
+        → CountTo i (counted i es) (checked_by seconds n es o)
+    checked_even None at = sum_none (counted i es)
+    checked_even (Some slot) at = by (lives_at n.client n.backend n.time (Some slot)) refl
+      where
+        by : (b : Bool) → lives_at n.client n.backend n.time (Some slot) ≡ b
+            → CountTo i (counted i es) (checked_there seconds n es slot b)
+        by false q = sum_none (counted i es)
+        by true q =
+            let there = lives_there n.client n.backend n.time es (Some slot) at q in
+            let same : there.0 ≡ slot = cc (there.1, at) in
+            let port : slot.port ≡ n.backend = ap (λ (x : Slot). x.port) (sym same) ∙ there.2 in
+            used_even slot es n.backend (counted i es) at port refl
+
+module _ (s : Settings) (i v : ℕ) (n : Noted) (es : Forwards) (all : AreMappings (MayConnect s v) es) where
+  plain_slot : s.closing ≡ None → (slot : Slot) → slot_of n.client es ≡ Some slot → slot.phase ≡ Plain
+  plain_slot none slot at =
+      plain_of s.closing n.client.protocol slot.phase none (may_slot (MayConnect s v) n.client slot es at all).3
+
+  plain_first : s.closing ≡ None → (e : Endpoint × Slot) → first_idle n.time es ≡ Some e → e.1.phase ≡ Plain
+  plain_first none e first =
+      plain_of s.closing e.0.protocol e.1.phase none (may_idle (MayConnect s v) n.time e es first all).3
+
+  finds_even : (c : Option ℕ) → s.closing ≡ c → CountTo i (counted i es) (finds c n es)
+  finds_even None none =
+      found_even i n es (plain_slot none) (plain_first none) (slot_of n.client es) (first_idle n.time es) refl refl
+  finds_even (Some seconds) is = met_by_even i seconds n es (slot_of n.client es) (first_idle n.time es) refl refl
+
+  connects_even : (c : Option ℕ) → s.closing ≡ c
+      → CountTo i (counted i es + one_if (n.backend == i)) (connects c n es)
+  connects_even None none = bound_even i n es (plain_slot none) (plain_first none) (slot_of n.client es) refl
+  connects_even (Some seconds) is = connected_even i seconds n es (slot_of n.client es) refl
+
+  checks_even : (c : Option ℕ) → s.closing ≡ c → CountTo i (counted i es) (checks c n es)
+  checks_even None none =
+      check_even i n es (plain_slot none) (plain_first none) (lives n.client n.backend n.time es) refl
+  checks_even (Some seconds) is = checked_even i seconds n es (slot_of n.client es) refl
+
 module _ (s : Settings) (i : ℕ) (n : Noted) (loads : List ℕ) (low : i < length loads) where
   -- the load of the backend that the packet owes is lowered
-  lowered_balanced : (p : Place) (g : Goes) → owed i p n ≡ one_if (n.spare == i) → owed i g.place g.noted ≡ 0
+  lowered_balanced : (p : Place) (g : Goes) → owed i p n ≡ one_if (n.spare == i) + owed i g.place g.noted
       → (b : Bool) → (n.spare == i) ≡ b → Balanced 1 i (Loaded loads) p n (Loaded (lowered n.spare loads), g)
-  lowered_balanced p g was none true q =
+  lowered_balanced p g was true q =
       let same : n.spare ≡ i = eqb-true _ _ q in
-      let one : owed i p n ≡ 1 = was ∙ ap one_if q in
+      let one : one_if (n.spare == i) ≡ 1 = ap one_if q in
       let here : slice_index (lowered n.spare loads) i ≡ (slice_index loads i + (2 ^ 64 - 1)) % 2 ^ 64 =
       ap (λ (k : ℕ). slice_index (lowered k loads) i) same ∙ lowered_here i loads low in
-      inr (refl, inr (here, omega arith))
-  lowered_balanced p g was none false q =
-      let zero_is : owed i p n ≡ 0 = was ∙ ap one_if q in
-      inl (lowered_other n.spare i loads q, omega arith)
+      inr (refl, inr (here, omega (arith, was, one)))
+  lowered_balanced p g was false q =
+      let none : one_if (n.spare == i) ≡ 0 = ap one_if q in
+      inl (lowered_other n.spare i loads q, omega (arith, was, none))
 
   raised_balanced : (k : ℕ) → (b : Bool) → (k == i) ≡ b
       → Balanced 1 i (Loaded loads) RaisesLeast n
@@ -241,40 +430,48 @@ module _ (s : Settings) (i : ℕ) (n : Noted) (loads : List ℕ) (low : i < leng
 -- each touch
 touch_balanced : (s : Settings) (is : AreSettings s) (i : ℕ) → i < length s.backends → (p : Place) (x : BalancerValue)
     (n : Noted) (v : ℕ) → next_move s p n ≡ Access v → var_of s p n ≡ v → Fits s v x
-    → Balanced v i x p n (touched p x n)
+    → Balanced v i x p n (touched s.closing p x n)
 touch_balanced s is i low HearsTime x n v e at fits = absurd (cc)
 touch_balanced s is i low FindsConnection (Dropped d) n v e at fits = absurd (omega (arith, at, fits, is.some))
 touch_balanced s is i low FindsConnection (Loaded loads) n v e at fits = absurd (omega (arith, at, fits.0, is.some))
 touch_balanced s is i low FindsConnection (Connected es) n v e at fits =
-    inl (refl, found_even i n es (slot_of n.client es) (first_idle n.time es) refl refl ∙ (omega arith))
+    inl (refl, finds_even s i v n es fits.2 s.closing refl ∙ sym (sum_none (counted i es)))
 touch_balanced s is i low LowersIdle (Dropped d) n v e at fits = absurd (omega (arith, at, fits, is.some))
 touch_balanced s is i low LowersIdle (Loaded loads) n v e at fits =
     let one : v ≡ 1 = fits.0 in
-    subst (λ (k : ℕ). Balanced k i (Loaded loads) LowersIdle n (touched LowersIdle (Loaded loads) n)) (sym one)
-    (lowered_balanced s i n loads (omega (arith, fits.1)) LowersIdle (begins n n.resets) refl
-    (begins_even i n [] n.resets) (n.spare == i) refl)
+    subst (λ (k : ℕ). Balanced k i (Loaded loads) LowersIdle n (touched s.closing LowersIdle (Loaded loads) n))
+    (sym one) (lowered_balanced s i n loads (omega (arith, fits.1)) LowersIdle (begins n n.resets)
+    (let none = begins_even i n n.resets in
+    sym (sum_none (one_if (n.spare == i))) ∙ ap (λ (k : ℕ). one_if (n.spare == i) + k) (sym none)) (n.spare == i) refl)
 touch_balanced s is i low LowersIdle (Connected es) n v e at fits = absurd (omega (arith, at, fits.0, fits.1, is.some))
 touch_balanced s is i low RaisesLeast (Dropped d) n v e at fits = absurd (omega (arith, at, fits, is.some))
 touch_balanced s is i low RaisesLeast (Loaded loads) n v e at fits =
     let one : v ≡ 1 = fits.0 in
-    subst (λ (k : ℕ). Balanced k i (Loaded loads) RaisesLeast n (touched RaisesLeast (Loaded loads) n)) (sym one)
-    (raised_balanced s i n loads (omega (arith, fits.1)) (least_loaded loads) (least_loaded loads == i) refl)
+    subst (λ (k : ℕ). Balanced k i (Loaded loads) RaisesLeast n (touched s.closing RaisesLeast (Loaded loads) n))
+    (sym one) (raised_balanced s i n loads (omega (arith, fits.1)) (least_loaded loads) (least_loaded loads == i) refl)
 touch_balanced s is i low RaisesLeast (Connected es) n v e at fits = absurd (omega (arith, at, fits.0, fits.1, is.some))
 touch_balanced s is i low Connects (Dropped d) n v e at fits = absurd (omega (arith, at, fits, is.some))
 touch_balanced s is i low Connects (Loaded loads) n v e at fits = absurd (omega (arith, at, fits.0, is.some))
 touch_balanced s is i low Connects (Connected es) n v e at fits =
-    inl (refl, bound_even i n es (slot_of n.client es) refl)
+    inl (refl, connects_even s i v n es fits.2 s.closing refl)
+touch_balanced s is i low LowersVain (Dropped d) n v e at fits = absurd (omega (arith, at, fits, is.some))
 touch_balanced s is i low LowersSpare (Dropped d) n v e at fits = absurd (omega (arith, at, fits, is.some))
+touch_balanced s is i low LowersVain (Loaded loads) n v e at fits =
+    let one : v ≡ 1 = fits.0 in
+    subst (λ (k : ℕ). Balanced k i (Loaded loads) LowersVain n (touched s.closing LowersVain (Loaded loads) n))
+    (sym one) (lowered_balanced s i n loads (omega (arith, fits.1)) LowersVain
+    (record { place = LowersSpare; noted = record n { spare = n.backend } }) refl (n.spare == i) refl)
 touch_balanced s is i low LowersSpare (Loaded loads) n v e at fits =
     let one : v ≡ 1 = fits.0 in
-    subst (λ (k : ℕ). Balanced k i (Loaded loads) LowersSpare n (touched LowersSpare (Loaded loads) n)) (sym one)
-    (lowered_balanced s i n loads (omega (arith, fits.1)) LowersSpare (record { place = SendsOut; noted = n }) refl refl
-    (n.spare == i) refl)
+    subst (λ (k : ℕ). Balanced k i (Loaded loads) LowersSpare n (touched s.closing LowersSpare (Loaded loads) n))
+    (sym one) (lowered_balanced s i n loads (omega (arith, fits.1)) LowersSpare
+    (record { place = SendsOut; noted = n }) (sym (sum_none (one_if (n.spare == i)))) (n.spare == i) refl)
+touch_balanced s is i low LowersVain (Connected es) n v e at fits = absurd (omega (arith, at, fits.0, fits.1, is.some))
 touch_balanced s is i low LowersSpare (Connected es) n v e at fits = absurd (omega (arith, at, fits.0, fits.1, is.some))
 touch_balanced s is i low ChecksConnection (Dropped d) n v e at fits = absurd (omega (arith, at, fits, is.some))
 touch_balanced s is i low ChecksConnection (Loaded loads) n v e at fits = absurd (omega (arith, at, fits.0, is.some))
 touch_balanced s is i low ChecksConnection (Connected es) n v e at fits =
-    inl (refl, check_even i n es (lives n.client n.backend n.time es) refl ∙ (omega arith))
+    inl (refl, checks_even s i v n es fits.2 s.closing refl ∙ sym (sum_none (counted i es)))
 touch_balanced s is i low CountsDrop (Dropped d) n v e at fits = inl (refl, refl)
 touch_balanced s is i low CountsDrop (Loaded loads) n v e at fits = absurd (omega (arith, at, fits.0, is.some))
 touch_balanced s is i low CountsDrop (Connected es) n v e at fits = absurd (omega (arith, at, fits.0, fits.1, is.some))
@@ -396,7 +593,7 @@ module _ (s : Settings) (is : AreSettings s) (threads : ℕ) (i : ℕ) (in_numbe
         let h : Hand = m.0 in
         let p : Place = place_numbered h.place.at in
         let n : Noted = noted_by s h.place in
-        let r : BalancerValue × Goes = touched p (value w) n in
+        let r : BalancerValue × Goes = touched s.closing p (value w) n in
         let at : var_of s p n ≡ w = touches_it s p n w m.2 in
         let below : w < 2 + s.shards = subst (λ (u : ℕ). u < 2 + s.shards) at (below_all s p n is.some) in
         let noted : IsNoted (length s.backends) n = is_noted (length s.backends) h.place is.some_backends in

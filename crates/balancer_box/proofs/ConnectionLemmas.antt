@@ -4,8 +4,10 @@ use Rattle.std.specs.Prelude.{◌==◌, ◌&&◌, not, if◌then◌else◌}
 use Rattle.std.proofs.lemmas.Bool.{eqb-true}
 use Rattle.nat_tables.specs.declared.entries.Endpoint.{Endpoint}
 use Rattle.nat_tables.specs.declared.slot.Slot.{Slot}
+use Rattle.nat_tables.specs.declared.phase.Phase.{Phase}
 use Rattle.nat_tables.specs.Keys.{same_endpoint}
-use Rattle.nat_tables.specs.Forwards.{Forwards, slot_of, refreshed, refresh, without, is_idle, lives_at, Misses}
+use Rattle.nat_tables.specs.Forwards.{Forwards, slot_of, refreshed, refresh, in_phase, with_phase, without, is_idle}
+use Rattle.nat_tables.specs.Forwards.{lives_at, Misses}
 use Rattle.nat_tables.proofs.Counting.{same_is}
 
 pub slot_refreshed : (key : Endpoint) (now : ℕ) (slot : Slot) (es : Forwards) → slot_of key es ≡ Some slot
@@ -17,6 +19,17 @@ slot_refreshed key now slot (e ∷ es) is = by (same_endpoint key e.0) refl is (
         → (slot_of key es ≡ Some slot → slot_of key (refresh key now es) ≡ Some (refreshed now slot))
         → slot_of key (refresh key now (e ∷ es)) ≡ Some (refreshed now slot)
     by true q is rest = let s : e.1 ≡ slot = cc in rw (q, q) (ap (λ (t : Slot). Some (refreshed now t)) s)
+    by false q is rest = rw (q, q) (rest is)
+
+pub slot_in_phase : (key : Endpoint) (phase : Phase) (slot : Slot) (es : Forwards) → slot_of key es ≡ Some slot
+    → slot_of key (with_phase key phase es) ≡ Some (in_phase phase slot)
+slot_in_phase key phase slot [] is = absurd (cc)
+slot_in_phase key phase slot (e ∷ es) is = by (same_endpoint key e.0) refl is (slot_in_phase key phase slot es)
+  where
+    by : (b : Bool) → same_endpoint key e.0 ≡ b → (if b then Some e.1 else slot_of key es) ≡ Some slot
+        → (slot_of key es ≡ Some slot → slot_of key (with_phase key phase es) ≡ Some (in_phase phase slot))
+        → slot_of key (with_phase key phase (e ∷ es)) ≡ Some (in_phase phase slot)
+    by true q is rest = let s : e.1 ≡ slot = cc in rw (q, q) (ap (λ (t : Slot). Some (in_phase phase t)) s)
     by false q is rest = rw (q, q) (rest is)
 
 pub slot_appended : (key : Endpoint) (slot : Slot) (es : Forwards) → slot_of key es ≡ None

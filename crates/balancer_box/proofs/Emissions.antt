@@ -22,7 +22,7 @@ use Rattle.plain_machine.proofs.Histories.{not_eq, is_eq}
 use Rattle.plain_machine.proofs.Bounds.{values_fit}
 use Rattle.nat_tables.specs.Keys.{same_endpoint}
 use Rattle.nat_tables.specs.Forwards.{Forwards, slot_of, refresh, refreshed, is_idle, first_idle, found_there, found}
-use Rattle.nat_tables.specs.Forwards.{bound, lives}
+use Rattle.nat_tables.specs.Forwards.{bound, lives, lives_at, in_phase, without, without_idle}
 use Rattle.flow_boxes.specs.Drops.{reason_of}
 use Rattle.flow_boxes.specs.Flows.{HaveBytes, source_of, dest_of}
 use Rattle.flow_boxes.proofs.Fitting.{IsWhole, whole, same_self}
@@ -33,27 +33,31 @@ use Rattle.nat_tables.specs.declared.phase.Phase.TheVariants.{Plain}
 use Rattle.balancer_box.specs.declared.place.Place.{Place}
 use Rattle.balancer_box.specs.declared.place.Place.TheVariants.{HearsTime, FindsConnection, LowersIdle, RaisesLeast}
 use Rattle.balancer_box.specs.declared.place.Place.TheVariants.{Connects, LowersSpare, ChecksConnection, CountsDrop}
-use Rattle.balancer_box.specs.declared.place.Place.TheVariants.{SendsOut, Ends}
+use Rattle.balancer_box.specs.declared.place.Place.TheVariants.{SendsOut, LowersVain, Ends}
 use Rattle.balancer_box.specs.declared.place.Class.{Class}
 use Rattle.balancer_box.specs.declared.place.Class.TheVariants.{Client, Answer}
+use Rattle.balancer_box.specs.declared.place.Tells.{Tells}
 use Rattle.balancer_box.specs.declared.place.Noted.{Noted}
 use Rattle.balancer_box.specs.declared.value.BalancerValue.{BalancerValue}
 use Rattle.balancer_box.specs.declared.value.BalancerValue.TheVariants.{Dropped, Loaded, Connected}
 use Rattle.balancer_box.specs.declared.backends.Backend.{Backend}
 use Rattle.balancer_box.specs.declared.place.Goes.{Goes}
 use Rattle.balancer_box.specs.Loads.{least_loaded}
-use Rattle.balancer_box.specs.Connections.{closed, without_if}
+use Rattle.balancer_box.specs.Connections.{closed, without_if, has_ended}
 use Rattle.balancer_box.specs.Places.{place_numbered}
 use Rattle.balancer_box.specs.Balancer.{Settings, goes, next_move, resets, is_virtual, backend_at, nothing_noted}
 use Rattle.balancer_box.specs.Balancer.{of_client, of_answer, begun_answer, begun_flow, begun, begins, goes_to}
 use Rattle.balancer_box.specs.Balancer.{after_find, after_bind, after_check, touched, after_time, told, frame_to}
+use Rattle.balancer_box.specs.Balancer.{tells_by, phase_then, ends, noting, after_idle, gives_way, met, met_there}
+use Rattle.balancer_box.specs.Balancer.{met_by, new_slot, gives_up, connected_by, checked_there, checked_by}
+use Rattle.balancer_box.specs.Balancer.{finds, connects, checks}
 use Rattle.balancer_box.specs.Balancer.{frame_out, local_at, noted_by, balancer_meaning, Fits}
 use Rattle.balancer_box.specs.Noting.{place_again, IsNoted, is_noted, noted_again}
 use Rattle.balancer_box.specs.Lawful.{AreSettings, var_of, touches_it, below_all, balancer_lawful}
 use Rattle.balancer_box.specs.Emissions.{Trail, no_trail, trail_of_touch, trail_by, trail_of, naming}
 use Rattle.balancer_box.specs.Emissions.{WasConnected, Lived, ReachesBackend, ComesFromVirtual, IsSentOnOf}
 use Rattle.balancer_box.specs.Emissions.{EmissionsFollowConnections}
-use Rattle.balancer_box.proofs.ConnectionLemmas.{slot_refreshed, slot_appended}
+use Rattle.balancer_box.proofs.ConnectionLemmas.{slot_refreshed, slot_in_phase, slot_appended}
 use Rattle.balancer_box.proofs.Noting.{touched_noted, told_noted}
 use Rattle.balancer_box.proofs.Making.{goes_on, comes_to, Made, made}
 
@@ -83,6 +87,7 @@ KnownAt s r p FindsConnection n = IsBase s p n × (n.class ≡ Client)
 KnownAt s r p LowersIdle n = IsBase s p n × (n.class ≡ Client)
 KnownAt s r p RaisesLeast n = IsBase s p n × (n.class ≡ Client) × (n.resets ≡ false)
 KnownAt s r p Connects n = IsBase s p n × (n.class ≡ Client) × (n.resets ≡ false)
+KnownAt s r p LowersVain n = IsBase s p n × IsSettled r n n.class
 KnownAt s r p LowersSpare n = IsBase s p n × IsSettled r n n.class
 KnownAt s r p ChecksConnection n = IsBase s p n × (n.class ≡ Answer) × (r.clock ≡ Some n.time)
 KnownAt s r p CountsDrop n = Unit {0}
@@ -208,14 +213,151 @@ module _ (s : Settings) (p : Packet) where
       answer_known r n es (without_if n.resets n.client es) base class clock is n.resets
   check_known r n es base class clock false is = tt
 
+  -- where connections are followed
+  module _ (r : Trail) (seconds : ℕ) (n : Noted) (es : Forwards) (base : IsBase s p n) where
+    abbrev next : Forwards → Trail
+    next left = after_touch (Connected es) (Connected left) r
+
+    module _ (class : n.class ≡ Client) where
+      goes_known : (left : Forwards) (b : Bool) (backend : ℕ)
+          → WasConnected (naming (next left) n.resets) n.client backend
+          → KnownAt s (next left) p (goes_to n b backend).place (goes_to n b backend).noted
+      goes_known left true backend was =
+          let m : Noted = record n { backend = backend; spare = backend } in
+          (client_on n m class refl refl refl base, subst (IsSettled (next left) m) (sym class) was)
+      goes_known left false backend was =
+          let m : Noted = record n { backend = backend } in
+          (client_on n m class refl refl refl base, subst (IsSettled (next left) m) (sym class) was)
+
+      gives_known : (left : Forwards) (b : Bool) (backend : ℕ)
+          → WasConnected (naming (next left) n.resets) n.client backend
+          → KnownAt s (next left) p (gives_up n b backend).place (gives_up n b backend).noted
+      gives_known left true backend was =
+          let m : Noted = record n { backend = backend; spare = n.backend } in
+          (client_on n m class refl refl refl base, subst (IsSettled (next left) m) (sym class) was)
+      gives_known left false backend was =
+          let m : Noted = record n { backend = backend; spare = n.backend } in
+          (client_on n m class refl refl refl base, subst (IsSettled (next left) m) (sym class) was)
+
+      after_idle_known : (t : Trail) (b : Bool) (backend : ℕ)
+          → KnownAt s t p (after_idle n backend b).place (after_idle n backend b).noted
+      after_idle_known t true backend = begins_known t n n.resets refl class base
+      after_idle_known t false backend =
+          (client_on n (record n { spare = backend }) class refl refl refl base, class)
+
+      -- a connection that stands in the table that was left, and in the one that was found where the packet resets it
+      was_named : (left : Forwards) (backend : ℕ) → WasConnected (Some es) n.client backend
+          → WasConnected (Some left) n.client backend → WasConnected (naming (next left) n.resets) n.client backend
+      was_named left backend found later = by n.resets
+        where
+          by : (b : Bool) → WasConnected (naming (next left) b) n.client backend
+          by true = found
+          by false = later
+
+      -- a connection in which the packet was noted
+      noted_there : (slot : Slot) (left : Forwards) → slot_of n.client left ≡ Some slot
+          → WasConnected (Some (noting seconds n slot left)) n.client slot.port
+      noted_there slot left at = (
+        noting seconds n slot left,
+        in_phase (phase_then seconds n slot.phase) slot,
+        refl,
+        slot_in_phase n.client (phase_then seconds n slot.phase) slot left at,
+        refl,
+      )
+
+      met_known : (slot : Slot) (b : Bool) → slot_of n.client es ≡ Some slot
+          → (let f = met seconds n es slot b in KnownAt s (next f.0) p f.1.place f.1.noted)
+      met_known slot true at = begins_known (next (without n.client es)) n n.resets refl class base
+      met_known slot false at =
+          let left : Forwards = noting seconds n slot (refresh n.client n.time es) in
+          goes_known left (ends seconds n slot) slot.port
+          (was_named left slot.port (es, slot, refl, at, refl)
+          (noted_there (refreshed n.time slot) (refresh n.client n.time es)
+          (slot_refreshed n.client n.time slot es at)))
+
+      met_there_known : (slot : Slot) (b : Bool) → slot_of n.client es ≡ Some slot
+          → (let f = met_there seconds n es slot b in KnownAt s (next f.0) p f.1.place f.1.noted)
+      met_there_known slot true at =
+          after_idle_known (next (without n.client es)) (has_ended slot.phase) slot.port
+      met_there_known slot false at = met_known slot (gives_way n slot) at
+
+      met_by_known : (o : Option Slot) (idle : Option (Endpoint × Slot)) → slot_of n.client es ≡ o
+          → (let f = met_by seconds n es o idle in KnownAt s (next f.0) p f.1.place f.1.noted)
+      met_by_known (Some slot) idle at = met_there_known slot (is_idle n.time (n.client, slot)) at
+      met_by_known None (Some e) at =
+          after_idle_known (next (without_idle n.time es)) (has_ended e.1.phase) e.1.port
+      met_by_known None None at = begins_known (next es) n n.resets refl class base
+
+      -- a packet that resets nothing connects its client
+      was_left : (left : Forwards) (backend : ℕ) → n.resets ≡ false → WasConnected (Some left) n.client backend
+          → WasConnected (naming (next left) n.resets) n.client backend
+      was_left left backend none was =
+          subst (λ (c : Bool). WasConnected (naming (next left) c) n.client backend) (sym none) was
+
+      connected_known : n.resets ≡ false → (o : Option Slot) → slot_of n.client es ≡ o
+          → (let f = connected_by seconds n es o in KnownAt s (next f.0) p f.1.place f.1.noted)
+      connected_known none (Some slot) at =
+          let left : Forwards = noting seconds n slot (refresh n.client n.time es) in
+          gives_known left (ends seconds n slot) slot.port
+          (was_left left slot.port none (noted_there (refreshed n.time slot) (refresh n.client n.time es)
+          (slot_refreshed n.client n.time slot es at)))
+      connected_known none None at =
+          let left : Forwards = noting seconds n (new_slot n) (es ++ (n.client, new_slot n) ∷ []) in
+          goes_known left (ends seconds n (new_slot n)) n.backend
+          (was_left left n.backend none (noted_there (new_slot n) (es ++ (n.client, new_slot n) ∷ [])
+          (slot_appended n.client (new_slot n) es at (same_self n.client))))
+
+    checked_known : n.class ≡ Answer → r.clock ≡ Some n.time → (o : Option Slot) → slot_of n.client es ≡ o
+        → (let f = checked_by seconds n es o in KnownAt s (next f.0) p f.1.place f.1.noted)
+    checked_known class clock None at = tt
+    checked_known class clock (Some slot) at = by (lives_at n.client n.backend n.time (Some slot)) refl
+      where
+        by : (b : Bool) → lives_at n.client n.backend n.time (Some slot) ≡ b
+            → (let f = checked_there seconds n es slot b in KnownAt s (next f.0) p f.1.place f.1.noted)
+        by false q = tt
+        by true q =
+            let there : lives n.client n.backend n.time es ≡ true =
+            subst (λ (o : Option Slot). lives_at n.client n.backend n.time o ≡ true) (sym at) q in
+            answer_known r n es (noting seconds n slot es) base class clock there (ends seconds n slot)
+
+  -- where they are followed, and where not
+
+  finds_known : (r : Trail) (c : Option ℕ) (n : Noted) (es : Forwards) → IsBase s p n → n.class ≡ Client
+      → same_endpoint n.client n.client ≡ true
+      → KnownAt s (after_touch (Connected es) (Connected (finds c n es).0) r) p (finds c n es).1.place
+      (finds c n es).1.noted
+  finds_known r None n es base class self =
+      found_known r n es base class self (slot_of n.client es) (first_idle n.time es) refl
+  finds_known r (Some seconds) n es base class self =
+      met_by_known r seconds n es base class (slot_of n.client es) (first_idle n.time es) refl
+
+  connects_known : (r : Trail) (c : Option ℕ) (n : Noted) (es : Forwards) → IsBase s p n → n.class ≡ Client
+      → same_endpoint n.client n.client ≡ true → n.resets ≡ false
+      → KnownAt s (after_touch (Connected es) (Connected (connects c n es).0) r) p (connects c n es).1.place
+      (connects c n es).1.noted
+  connects_known r None n es base class self none =
+      bound_known r n es base class self none (slot_of n.client es) refl
+  connects_known r (Some seconds) n es base class self none =
+      connected_known r seconds n es base class none (slot_of n.client es) refl
+
+  checks_known : (r : Trail) (c : Option ℕ) (n : Noted) (es : Forwards) → IsBase s p n → n.class ≡ Answer
+      → r.clock ≡ Some n.time
+      → KnownAt s (after_touch (Connected es) (Connected (checks c n es).0) r) p (checks c n es).1.place
+      (checks c n es).1.noted
+  checks_known r None n es base class clock =
+      check_known r n es base class clock (lives n.client n.backend n.time es) refl
+  checks_known r (Some seconds) n es base class clock =
+      checked_known r seconds n es base class clock (slot_of n.client es) refl
+
   touch_known : (r : Trail) (place : Place) (x : BalancerValue) (n : Noted) (v : ℕ) → next_move s place n ≡ Access v
       → same_endpoint n.client n.client ≡ true → KnownAt s r p place n
-      → KnownAt s (after_touch x (touched place x n).0 r) p (touched place x n).1.place (touched place x n).1.noted
+      → KnownAt s (after_touch x (touched s.closing place x n).0 r) p (touched s.closing place x n).1.place
+      (touched s.closing place x n).1.noted
   touch_known r HearsTime x n v e self k = absurd (cc)
   touch_known r FindsConnection (Dropped d) n v e self k = tt
   touch_known r FindsConnection (Loaded loads) n v e self k = tt
   touch_known r FindsConnection (Connected es) n v e self k =
-      found_known r n es k.0 k.1 self (slot_of n.client es) (first_idle n.time es) refl
+      finds_known r s.closing n es k.0 k.1 self
   touch_known r LowersIdle (Dropped d) n v e self k = tt
   touch_known r LowersIdle (Loaded loads) n v e self k = begins_known r n n.resets refl k.1 k.0
   touch_known r LowersIdle (Connected es) n v e self k = tt
@@ -225,14 +367,18 @@ module _ (s : Settings) (p : Packet) where
   touch_known r RaisesLeast (Connected es) n v e self k = tt
   touch_known r Connects (Dropped d) n v e self k = tt
   touch_known r Connects (Loaded loads) n v e self k = tt
-  touch_known r Connects (Connected es) n v e self k = bound_known r n es k.0 k.1 self k.2 (slot_of n.client es) refl
+  touch_known r Connects (Connected es) n v e self k = connects_known r s.closing n es k.0 k.1 self k.2
+  touch_known r LowersVain (Dropped d) n v e self k = tt
   touch_known r LowersSpare (Dropped d) n v e self k = tt
+  touch_known r LowersVain (Loaded loads) n v e self k =
+      (base_on n (record n { spare = n.backend }) refl refl refl refl k.0, k.1)
   touch_known r LowersSpare (Loaded loads) n v e self k = k
+  touch_known r LowersVain (Connected es) n v e self k = tt
   touch_known r LowersSpare (Connected es) n v e self k = tt
   touch_known r ChecksConnection (Dropped d) n v e self k = tt
   touch_known r ChecksConnection (Loaded loads) n v e self k = tt
   touch_known r ChecksConnection (Connected es) n v e self k =
-      check_known r n es k.0 k.1 k.2 (lives n.client n.backend n.time es) refl
+      checks_known r s.closing n es k.0 k.1 k.2
   touch_known r CountsDrop (Dropped d) n v e self k = tt
   touch_known r CountsDrop (Loaded loads) n v e self k = tt
   touch_known r CountsDrop (Connected es) n v e self k = tt
@@ -255,6 +401,7 @@ module _ (s : Settings) (p : Packet) where
   clock_known r LowersIdle a n e k = absurd (cc)
   clock_known r RaisesLeast a n e k = absurd (cc)
   clock_known r Connects a n e k = absurd (cc)
+  clock_known r LowersVain a n e k = absurd (cc)
   clock_known r LowersSpare a n e k = absurd (cc)
   clock_known r ChecksConnection a n e k = absurd (cc)
   clock_known r CountsDrop a n e k = absurd (cc)
@@ -274,8 +421,8 @@ backend_below bs address port k e = by (nat_lt at (length bs)) refl e
     by false q e = absurd (cc)
 
 module _ (s : Settings) (is : AreSettings s) where
-  pub client_noted : (flow : Flow) → IsWhole flow → IsNoted (length s.backends) (of_client flow)
-  client_noted flow w = record {
+  pub client_noted : (tells : Tells) (flow : Flow) → IsWhole flow → IsNoted (length s.backends) (of_client tells flow)
+  client_noted tells flow w = record {
     protocol = w.protocol;
     address = w.source;
     port = w.source_port;
@@ -283,9 +430,9 @@ module _ (s : Settings) (is : AreSettings s) where
     spare = omega (arith, is.some_backends);
   }
 
-  pub answer_noted : (flow : Flow) (k : ℕ) → k < length s.backends → IsWhole flow
-      → IsNoted (length s.backends) (of_answer flow k)
-  answer_noted flow k low w = record {
+  pub answer_noted : (tells : Tells) (flow : Flow) (k : ℕ) → k < length s.backends → IsWhole flow
+      → IsNoted (length s.backends) (of_answer tells flow k)
+  answer_noted tells flow k low w = record {
     protocol = w.protocol;
     address = w.dest;
     port = w.dest_port;
@@ -315,21 +462,26 @@ module _ (s : Settings) (is : AreSettings s) where
       hand : Goes → Hand
       hand g = record { packet = p; place = local_at g }
 
+      tells : Tells
+      tells = tells_by s.closing flow.flags
+
       by_backend : (o : Option ℕ) → backend_at s.backends flow.source flow.source_port ≡ o
           → is_virtual s flow.dest flow.dest_port ≡ false → IsWhole flow
-          → Known s no_trail (Some (hand (begun_answer flow o)))
+          → Known s no_trail (Some (hand (begun_answer tells flow o)))
       by_backend None q v w =
-          known_on s no_trail (hand (begun_answer flow None)) (begun_answer flow None) (nothing_is_noted 9) tt
+          known_on s no_trail (hand (begun_answer tells flow None)) (begun_answer tells flow None)
+          (nothing_is_noted 9) tt
       by_backend (Some k) q v w =
-          known_on s no_trail (hand (begun_answer flow (Some k))) (begun_answer flow (Some k))
-          (answer_noted flow k (backend_below s.backends flow.source flow.source_port k q) w)
+          known_on s no_trail (hand (begun_answer tells flow (Some k))) (begun_answer tells flow (Some k))
+          (answer_noted tells flow k (backend_below s.backends flow.source flow.source_port k q) w)
           (record { flow = flow; seen = seen; reset = refl; of = (v, refl, q) })
 
       by : (b : Bool) → is_virtual s flow.dest flow.dest_port ≡ b → IsWhole flow
-          → Known s no_trail (Some (hand (begun_flow s flow)))
+          → Known s no_trail (Some (hand (begun_flow s tells flow)))
       by true v w =
-          rw v (known_on s no_trail (hand (goes HearsTime (of_client flow))) (goes HearsTime (of_client flow))
-          (client_noted flow w) (record { flow = flow; seen = seen; reset = refl; of = (v, refl) }))
+          rw v (known_on s no_trail (hand (goes HearsTime (of_client tells flow)))
+          (goes HearsTime (of_client tells flow)) (client_noted tells flow w)
+          (record { flow = flow; seen = seen; reset = refl; of = (v, refl) }))
       by false v w = rw v (by_backend (backend_at s.backends flow.source flow.source_port) refl v w)
 
 -- Each move
@@ -352,9 +504,10 @@ made_known s is packets t earlier taken tn before after (Touches v left) bytes f
     let known : KnownAt s r h.packet place n = subst (Known s r) m.1 k in
     let noted : IsNoted (length s.backends) n = is_noted (length s.backends) h.place is.some_backends in
     let next = touch_known s h.packet r place x n v m.2 (same_self n.client) known in
-    let trail : Trail = after_touch x (touched place x n).0 r in
-    let on : Known s trail (goes_on h (touched place x n).1) =
-    known_on s trail h (touched place x n).1 (touched_noted s place x n v is.some_backends noted (fits v below)) next in
+    let trail : Trail = after_touch x (touched s.closing place x n).0 r in
+    let on : Known s trail (goes_on h (touched s.closing place x n).1) =
+    known_on s trail h (touched s.closing place x n).1
+    (touched_noted s place x n v is.some_backends noted (fits v below)) next in
     subst (λ (y : BalancerValue). Known s (after_touch x y r) after) (sym m.3) (subst (Known s trail) (sym m.4) on)
 made_known s is packets t earlier taken tn before after (Looks v) bytes fits r k m = absurd m
 made_known s is packets t earlier taken tn before after (HearsClock a) bytes fits r k m =
@@ -402,6 +555,7 @@ at_send s FindsConnection n e = absurd (cc)
 at_send s LowersIdle n e = absurd (cc)
 at_send s RaisesLeast n e = absurd (cc)
 at_send s Connects n e = absurd (cc)
+at_send s LowersVain n e = absurd (cc)
 at_send s LowersSpare n e = absurd (cc)
 at_send s ChecksConnection n e = absurd (cc)
 at_send s CountsDrop n e = absurd (cc)

@@ -10,21 +10,25 @@ use Rattle.plain_machine.specs.History.{Step, act_of, left_by, thread_after, val
 use Rattle.plain_machine.proofs.Bounds.{values_fit}
 use Rattle.nat_tables.specs.Keys.{same_endpoint}
 use Rattle.nat_tables.specs.Forwards.{Forwards, is_idle, slot_of, refresh, without, first_idle, without_idle}
-use Rattle.nat_tables.specs.Forwards.{found_there, found, bound, lives, Misses, AreMappings}
+use Rattle.nat_tables.specs.Forwards.{found_there, found, bound, lives, lives_at, with_phase, Misses}
+use Rattle.nat_tables.specs.Forwards.{AreMappings}
 use Rattle.nat_tables.proofs.Counting.{same_is}
 use Rattle.nat_tables.specs.declared.entries.Endpoint.{Endpoint}
 use Rattle.nat_tables.specs.declared.slot.Slot.{Slot}
+use Rattle.nat_tables.specs.declared.phase.Phase.{Phase}
 use Rattle.nat_tables.specs.declared.phase.Phase.TheVariants.{Plain}
 use Rattle.balancer_box.specs.declared.place.Place.{Place}
 use Rattle.balancer_box.specs.declared.place.Place.TheVariants.{HearsTime, FindsConnection, LowersIdle, RaisesLeast}
 use Rattle.balancer_box.specs.declared.place.Place.TheVariants.{Connects, LowersSpare, ChecksConnection, CountsDrop}
-use Rattle.balancer_box.specs.declared.place.Place.TheVariants.{SendsOut, Ends}
+use Rattle.balancer_box.specs.declared.place.Place.TheVariants.{SendsOut, LowersVain, Ends}
 use Rattle.balancer_box.specs.declared.place.Noted.{Noted}
 use Rattle.balancer_box.specs.declared.value.BalancerValue.{BalancerValue}
 use Rattle.balancer_box.specs.declared.value.BalancerValue.TheVariants.{Dropped, Loaded, Connected}
 use Rattle.balancer_box.specs.Connections.{closed, without_if}
 use Rattle.balancer_box.specs.Places.{place_numbered}
-use Rattle.balancer_box.specs.Balancer.{Settings, touched, noted_by, balancer_meaning, MayConnect, Fits}
+use Rattle.balancer_box.specs.Balancer.{Settings, phase_then, gives_way, met, met_there, met_by, new_slot}
+use Rattle.balancer_box.specs.Balancer.{connected_by, checked_there, checked_by, finds, connects, checks, touched}
+use Rattle.balancer_box.specs.Balancer.{noted_by, balancer_meaning, MayConnect, Fits}
 use Rattle.balancer_box.specs.Lawful.{balancer_lawful}
 use Rattle.balancer_box.specs.Entries.{connections_in, IsKept, AreKept, ConnectionsKeepBackends}
 use Rattle.balancer_box.proofs.ConnectionLemmas.{without_refreshed, missed}
@@ -50,6 +54,26 @@ kept_refresh key now (e ∷ es) client slot is =
     by true false p q is rest = rw (p, q) (kept_if slot (slot_of client es) is)
     by false true p q is rest = rw (p, q) (kept_if slot (Some e.1) is)
     by false false p q is rest = rw (p, q) (rest is)
+
+-- another phase changes no backend
+in_phase_kept : (slot : Slot) (key : Endpoint) (phase : Phase) (client : Endpoint) (es : Forwards)
+    → IsKept slot (slot_of client es) → IsKept slot (slot_of client (with_phase key phase es))
+in_phase_kept slot key phase client [] kept = tt
+in_phase_kept slot key phase client (e ∷ es) kept =
+    by (same_endpoint key e.0) (same_endpoint client e.0) refl refl kept (in_phase_kept slot key phase client es)
+  where
+    by : (a b : Bool) → same_endpoint key e.0 ≡ a → same_endpoint client e.0 ≡ b
+        → IsKept slot (if b then Some e.1 else slot_of client es)
+        → (IsKept slot (slot_of client es) → IsKept slot (slot_of client (with_phase key phase es)))
+        → IsKept slot (slot_of client (with_phase key phase (e ∷ es)))
+    by true true p q kept rest = rw (p, q) kept
+    by true false p q kept rest = rw (p, q) kept
+    by false true p q kept rest = rw (p, q) kept
+    by false false p q kept rest = rw (p, q) (rest kept)
+
+kept_in_phase : (key : Endpoint) (phase : Phase) (es left : Forwards) → AreKept es left
+    → AreKept es (with_phase key phase left)
+kept_in_phase key phase es left kept client slot is = in_phase_kept slot key phase client left (kept client slot is)
 
 module _ (May : Endpoint → Slot → Type 0) where
   -- behind a connection of a client there is no other one of this client
@@ -125,13 +149,59 @@ module _ (May : Endpoint → Slot → Type 0) where
   kept_bound key backend now es (Some slot) = kept_refresh key now es
   kept_bound key backend now es None = kept_append es ((key, record { port = backend; last = now; phase = Plain }) ∷ [])
 
+module _ (s : Settings) (v : ℕ) (n : Noted) (es : Forwards) (all : AreMappings (MayConnect s v) es) where
+  finds_keep : (c : Option ℕ) → AreKept es (finds c n es).0
+  finds_keep None =
+      kept_found (MayConnect s v) n.resets n.client n.time es (slot_of n.client es) (first_idle n.time es) all
+  finds_keep (Some seconds) = by (slot_of n.client es) (first_idle n.time es)
+    where
+      met_keeps : (slot : Slot) (b : Bool) → AreKept es (met seconds n es slot b).0
+      met_keeps slot true = kept_without (MayConnect s v) n.client es all
+      met_keeps slot false =
+          kept_in_phase n.client (phase_then seconds n slot.phase) es (refresh n.client n.time es)
+          (kept_refresh n.client n.time es)
+
+      there_keeps : (slot : Slot) (b : Bool) → AreKept es (met_there seconds n es slot b).0
+      there_keeps slot true = kept_without (MayConnect s v) n.client es all
+      there_keeps slot false = met_keeps slot (gives_way n slot)
+
+      by : (o : Option Slot) (idle : Option (Endpoint × Slot)) → AreKept es (met_by seconds n es o idle).0
+      by (Some slot) idle = there_keeps slot (is_idle n.time (n.client, slot))
+      by None (Some e) = kept_without_idle (MayConnect s v) n.time es all
+      by None None = kept_all es
+
+  connects_keep : (c : Option ℕ) → AreKept es (connects c n es).0
+  connects_keep None = kept_bound (MayConnect s v) n.client n.backend n.time es (slot_of n.client es)
+  connects_keep (Some seconds) = by (slot_of n.client es)
+    where
+      by : (o : Option Slot) → AreKept es (connected_by seconds n es o).0
+      by (Some slot) =
+          kept_in_phase n.client (phase_then seconds n slot.phase) es (refresh n.client n.time es)
+          (kept_refresh n.client n.time es)
+      by None =
+          kept_in_phase n.client (phase_then seconds n Plain) es (es ++ (n.client, new_slot n) ∷ [])
+          (kept_append (MayConnect s v) es ((n.client, new_slot n) ∷ []))
+
+  checks_keep : (c : Option ℕ) → AreKept es (checks c n es).0
+  checks_keep None =
+      kept_without_if (MayConnect s v) (lives n.client n.backend n.time es && n.resets) n.client es all
+  checks_keep (Some seconds) = by (slot_of n.client es)
+    where
+      there_keeps : (slot : Slot) (b : Bool) → AreKept es (checked_there seconds n es slot b).0
+      there_keeps slot true = kept_in_phase n.client (phase_then seconds n slot.phase) es es (kept_all es)
+      there_keeps slot false = kept_all es
+
+      by : (o : Option Slot) → AreKept es (checked_by seconds n es o).0
+      by (Some slot) = there_keeps slot (lives_at n.client n.backend n.time (Some slot))
+      by None = kept_all es
+
 kept_touch : (s : Settings) (p : Place) (x : BalancerValue) (n : Noted) (v : ℕ) → Fits s v x
-    → AreKept (connections_in x) (connections_in (touched p x n).0)
+    → AreKept (connections_in x) (connections_in (touched s.closing p x n).0)
 kept_touch s HearsTime x n v fits = kept_all (connections_in x)
 kept_touch s FindsConnection (Dropped d) n v fits = kept_all []
 kept_touch s FindsConnection (Loaded loads) n v fits = kept_all []
 kept_touch s FindsConnection (Connected es) n v fits =
-    kept_found (MayConnect s v) n.resets n.client n.time es (slot_of n.client es) (first_idle n.time es) fits.2
+    finds_keep s v n es fits.2 s.closing
 kept_touch s LowersIdle (Dropped d) n v fits = kept_all []
 kept_touch s LowersIdle (Loaded loads) n v fits = kept_all []
 kept_touch s LowersIdle (Connected es) n v fits = kept_all es
@@ -141,14 +211,17 @@ kept_touch s RaisesLeast (Connected es) n v fits = kept_all es
 kept_touch s Connects (Dropped d) n v fits = kept_all []
 kept_touch s Connects (Loaded loads) n v fits = kept_all []
 kept_touch s Connects (Connected es) n v fits =
-    kept_bound (MayConnect s v) n.client n.backend n.time es (slot_of n.client es)
+    connects_keep s v n es fits.2 s.closing
+kept_touch s LowersVain (Dropped d) n v fits = kept_all []
 kept_touch s LowersSpare (Dropped d) n v fits = kept_all []
+kept_touch s LowersVain (Loaded loads) n v fits = kept_all []
 kept_touch s LowersSpare (Loaded loads) n v fits = kept_all []
+kept_touch s LowersVain (Connected es) n v fits = kept_all es
 kept_touch s LowersSpare (Connected es) n v fits = kept_all es
 kept_touch s ChecksConnection (Dropped d) n v fits = kept_all []
 kept_touch s ChecksConnection (Loaded loads) n v fits = kept_all []
 kept_touch s ChecksConnection (Connected es) n v fits =
-    kept_without_if (MayConnect s v) (lives n.client n.backend n.time es && n.resets) n.client es fits.2
+    checks_keep s v n es fits.2 s.closing
 kept_touch s CountsDrop (Dropped d) n v fits = kept_all []
 kept_touch s CountsDrop (Loaded loads) n v fits = kept_all []
 kept_touch s CountsDrop (Connected es) n v fits = kept_all es
@@ -176,8 +249,8 @@ deed_keeps s packets t taken taken_then value before after earlier (Touches w le
     by false q = kept_all (connections_in (value v))
     by true q =
         let e : w ≡ v = eqb-true _ _ q in
-        let same : left ≡ (touched (place_numbered h.place.at) (value v) (noted_by s h.place)).0 =
-        m.3 ∙ ap (λ (u : ℕ). (touched (place_numbered h.place.at) (value u) (noted_by s h.place)).0) e in
+        let same : left ≡ (touched s.closing (place_numbered h.place.at) (value v) (noted_by s h.place)).0 =
+        m.3 ∙ ap (λ (u : ℕ). (touched s.closing (place_numbered h.place.at) (value u) (noted_by s h.place)).0) e in
         subst (λ (x : BalancerValue). AreKept (connections_in (value v)) (connections_in x)) (sym same)
         (kept_touch s (place_numbered h.place.at) (value v) (noted_by s h.place) v fits)
 

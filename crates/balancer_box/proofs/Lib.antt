@@ -1,6 +1,7 @@
 pub mod BoxLemmas
 pub mod LoadLemmas
 pub mod ConnectionLemmas
+pub mod CountLemmas
 pub mod Noting
 pub mod Making
 pub mod Charging

@@ -29,8 +29,8 @@ Made s packets taken value before after Takes =
     × (after ≡ Some (record { packet = p; place = local_at (begun s (viewed p.bytes p.original)) }))
 Made s packets taken value before after (Touches v left) =
     (h : Hand) × (before ≡ Some h) × comes_to s h (Access v)
-    × (left ≡ (touched (place_numbered h.place.at) (value v) (noted_by s h.place)).0)
-    × (after ≡ goes_on h (touched (place_numbered h.place.at) (value v) (noted_by s h.place)).1)
+    × (left ≡ (touched s.closing (place_numbered h.place.at) (value v) (noted_by s h.place)).0)
+    × (after ≡ goes_on h (touched s.closing (place_numbered h.place.at) (value v) (noted_by s h.place)).1)
 Made s packets taken value before after (Looks v) = ⊥
 Made s packets taken value before after (HearsClock a) =
     (h : Hand) × (before ≡ Some h) × comes_to s h Clock

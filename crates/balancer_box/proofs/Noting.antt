@@ -1,14 +1,15 @@
 -- What a move leaves noted fits its fields.
 use Rattle.std.proofs.Common.{◌≡◌, ℕ, ◌<◌, ◌≤◌, Bool, true, false, length, refl, arith, Option, Some, None}
 use Rattle.nat_tables.specs.Forwards.{Forwards, is_idle, slot_of, first_idle, found_there, found, bound, lives, port_of}
-use Rattle.nat_tables.specs.Forwards.{AreMappings}
+use Rattle.nat_tables.specs.Forwards.{AreMappings, lives_at}
 use Rattle.nat_tables.proofs.Keeping.{may_slot, may_idle}
 use Rattle.nat_tables.specs.declared.entries.Endpoint.{Endpoint}
 use Rattle.nat_tables.specs.declared.slot.Slot.{Slot}
 use Rattle.balancer_box.specs.declared.place.Place.{Place}
 use Rattle.balancer_box.specs.declared.place.Place.TheVariants.{HearsTime, FindsConnection, LowersIdle, RaisesLeast}
 use Rattle.balancer_box.specs.declared.place.Place.TheVariants.{Connects, LowersSpare, ChecksConnection, CountsDrop}
-use Rattle.balancer_box.specs.declared.place.Place.TheVariants.{SendsOut, Ends}
+use Rattle.balancer_box.specs.declared.place.Place.TheVariants.{SendsOut, LowersVain, Ends}
+use Rattle.balancer_box.specs.Connections.{has_ended}
 use Rattle.balancer_box.specs.declared.place.Class.{Class}
 use Rattle.balancer_box.specs.declared.place.Class.TheVariants.{Client, Answer}
 use Rattle.balancer_box.specs.declared.place.Noted.{Noted}
@@ -16,6 +17,8 @@ use Rattle.balancer_box.specs.declared.value.BalancerValue.{BalancerValue}
 use Rattle.balancer_box.specs.declared.value.BalancerValue.TheVariants.{Dropped, Loaded, Connected}
 use Rattle.balancer_box.specs.Loads.{least_loaded}
 use Rattle.balancer_box.specs.Balancer.{Settings, begins, goes_to, after_find, after_bind, after_check, touched}
+use Rattle.balancer_box.specs.Balancer.{ends, after_idle, gives_way, met, met_there, met_by, new_slot, gives_up}
+use Rattle.balancer_box.specs.Balancer.{connected_by, checked_there, checked_by, finds, connects, checks}
 use Rattle.balancer_box.specs.Balancer.{after_time, told, MayConnect, Fits}
 use Rattle.balancer_box.specs.Noting.{IsNoted}
 use Rattle.balancer_box.proofs.LoadLemmas.{least_below}
@@ -80,13 +83,69 @@ module _ (s : Settings) (v : ℕ) (n : Noted) (is : IsNoted (length s.backends) 
       with_both (length s.backends) n slot.port n.backend m.2 is.backend is
   bound_noted None at = is
 
+  idle_noted : (backend : ℕ) (b : Bool) → backend < length s.backends
+      → IsNoted (length s.backends) (after_idle n backend b).noted
+  idle_noted backend true low = begins_noted (length s.backends) n n.resets is
+  idle_noted backend false low = with_spare (length s.backends) n backend low is
+
+  port_low : (slot : Slot) → slot_of n.client es ≡ Some slot → slot.port < length s.backends
+  port_low slot at = (may_slot (MayConnect s v) n.client slot es at all).2
+
+  finds_noted : (c : Option ℕ) → IsNoted (length s.backends) (finds c n es).1.noted
+  finds_noted None = found_noted (slot_of n.client es) (first_idle n.time es) refl refl
+  finds_noted (Some seconds) = by (slot_of n.client es) (first_idle n.time es) refl refl
+    where
+      met_noted : (slot : Slot) (b : Bool) → slot_of n.client es ≡ Some slot
+          → IsNoted (length s.backends) (met seconds n es slot b).1.noted
+      met_noted slot true at = begins_noted (length s.backends) n n.resets is
+      met_noted slot false at =
+          goes_noted (length s.backends) n (ends seconds n slot) slot.port (port_low slot at) is
+
+      at_slot : (slot : Slot) (b : Bool) → slot_of n.client es ≡ Some slot
+          → IsNoted (length s.backends) (met_there seconds n es slot b).1.noted
+      at_slot slot true at = idle_noted slot.port (has_ended slot.phase) (port_low slot at)
+      at_slot slot false at = met_noted slot (gives_way n slot) at
+
+      by : (o : Option Slot) (idle : Option (Endpoint × Slot)) → slot_of n.client es ≡ o → first_idle n.time es ≡ idle
+          → IsNoted (length s.backends) (met_by seconds n es o idle).1.noted
+      by (Some slot) idle at first = at_slot slot (is_idle n.time (n.client, slot)) at
+      by None (Some e) at first =
+          let m = may_idle (MayConnect s v) n.time e es first all in idle_noted e.1.port (has_ended e.1.phase) m.2
+      by None None at first = begins_noted (length s.backends) n n.resets is
+
+  connects_noted : (c : Option ℕ) → IsNoted (length s.backends) (connects c n es).1.noted
+  connects_noted None = bound_noted (slot_of n.client es) refl
+  connects_noted (Some seconds) = by (slot_of n.client es) refl
+    where
+      given_up : (b : Bool) (backend : ℕ) → backend < length s.backends
+          → IsNoted (length s.backends) (gives_up n b backend).noted
+      given_up true backend low = with_both (length s.backends) n backend n.backend low is.backend is
+      given_up false backend low = with_both (length s.backends) n backend n.backend low is.backend is
+
+      by : (o : Option Slot) → slot_of n.client es ≡ o
+          → IsNoted (length s.backends) (connected_by seconds n es o).1.noted
+      by (Some slot) at = given_up (ends seconds n slot) slot.port (port_low slot at)
+      by None at = goes_noted (length s.backends) n (ends seconds n (new_slot n)) n.backend is.backend is
+
+  checks_noted : (c : Option ℕ) → IsNoted (length s.backends) (checks c n es).1.noted
+  checks_noted None = check_noted (length s.backends) n (lives n.client n.backend n.time es) is
+  checks_noted (Some seconds) = by (slot_of n.client es)
+    where
+      at_slot : (slot : Slot) (b : Bool) → IsNoted (length s.backends) (checked_there seconds n es slot b).1.noted
+      at_slot slot true = goes_noted (length s.backends) n (ends seconds n slot) n.backend is.backend is
+      at_slot slot false = with_reason (length s.backends) n 7 is
+
+      by : (o : Option Slot) → IsNoted (length s.backends) (checked_by seconds n es o).1.noted
+      by (Some slot) = at_slot slot (lives_at n.client n.backend n.time (Some slot))
+      by None = with_reason (length s.backends) n 7 is
+
 pub touched_noted : (s : Settings) (p : Place) (x : BalancerValue) (n : Noted) (v : ℕ) → 1 ≤ length s.backends
-    → IsNoted (length s.backends) n → Fits s v x → IsNoted (length s.backends) (touched p x n).1.noted
+    → IsNoted (length s.backends) n → Fits s v x → IsNoted (length s.backends) (touched s.closing p x n).1.noted
 touched_noted s HearsTime x n v some is fits = is
 touched_noted s FindsConnection (Dropped d) n v some is fits = is
 touched_noted s FindsConnection (Loaded loads) n v some is fits = is
 touched_noted s FindsConnection (Connected es) n v some is fits =
-    found_noted s v n is es fits.2 (slot_of n.client es) (first_idle n.time es) refl refl
+    finds_noted s v n is es fits.2 s.closing
 touched_noted s LowersIdle (Dropped d) n v some is fits = is
 touched_noted s LowersIdle (Loaded loads) n v some is fits = begins_noted (length s.backends) n n.resets is
 touched_noted s LowersIdle (Connected es) n v some is fits = is
@@ -97,14 +156,17 @@ touched_noted s RaisesLeast (Loaded loads) n v some is fits =
 touched_noted s RaisesLeast (Connected es) n v some is fits = is
 touched_noted s Connects (Dropped d) n v some is fits = is
 touched_noted s Connects (Loaded loads) n v some is fits = is
-touched_noted s Connects (Connected es) n v some is fits = bound_noted s v n is es fits.2 (slot_of n.client es) refl
+touched_noted s Connects (Connected es) n v some is fits = connects_noted s v n is es fits.2 s.closing
+touched_noted s LowersVain (Dropped d) n v some is fits = is
 touched_noted s LowersSpare (Dropped d) n v some is fits = is
+touched_noted s LowersVain (Loaded loads) n v some is fits = with_spare (length s.backends) n n.backend is.backend is
 touched_noted s LowersSpare (Loaded loads) n v some is fits = is
+touched_noted s LowersVain (Connected es) n v some is fits = is
 touched_noted s LowersSpare (Connected es) n v some is fits = is
 touched_noted s ChecksConnection (Dropped d) n v some is fits = is
 touched_noted s ChecksConnection (Loaded loads) n v some is fits = is
 touched_noted s ChecksConnection (Connected es) n v some is fits =
-    check_noted (length s.backends) n (lives n.client n.backend n.time es) is
+    checks_noted s v n is es fits.2 s.closing
 touched_noted s CountsDrop (Dropped d) n v some is fits = is
 touched_noted s CountsDrop (Loaded loads) n v some is fits = is
 touched_noted s CountsDrop (Connected es) n v some is fits = is
@@ -122,6 +184,7 @@ told_noted backends FindsConnection a n is = is
 told_noted backends LowersIdle a n is = is
 told_noted backends RaisesLeast a n is = is
 told_noted backends Connects a n is = is
+told_noted backends LowersVain a n is = is
 told_noted backends LowersSpare a n is = is
 told_noted backends ChecksConnection a n is = is
 told_noted backends CountsDrop a n is = is

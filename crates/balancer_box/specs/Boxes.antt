@@ -1,5 +1,5 @@
 -- The box as a value: its settings are in range.
-use Rattle.std.specs.Prelude.{ℕ, ◌≤◌, min, max, List, [], ◌∷◌, length, take}
+use Rattle.std.specs.Prelude.{ℕ, ◌≤◌, min, max, List, [], ◌∷◌, length, take, Option, None}
 use Rattle.std.proofs.Common.{arith, length-take}
 use Rattle.plain_machine.specs.Program.{Meaning, IsLawful}
 use Rattle.flow_boxes.specs.Ranges.{at_least, at_most, one_of_64}
@@ -10,7 +10,13 @@ use Rattle.balancer_box.specs.Balancer.{Settings, balancer_meaning, Fits}
 use Rattle.balancer_box.specs.Lawful.{AreSettings, balancer_lawful}
 
 abbrev pub settings_of : BalancerBox → Settings
-settings_of b = record { shards = b.shards; address = b.address; port = b.port; backends = b.backends }
+settings_of b = record {
+  shards = b.shards;
+  address = b.address;
+  port = b.port;
+  backends = b.backends;
+  closing = b.closing;
+}
 
 -- the first 64 of these backends, and where there is none, one at no address
 abbrev pub at_least_one : List Backend → List Backend
@@ -34,11 +40,16 @@ box_with shards address port backends = record {
   address = address;
   port = port;
   backends = in_number backends;
+  closing = None;
   some = at_least 1 shards 64;
   few = at_most 1 shards 64 one_of_64;
   some_backends = in_number_some backends;
   few_backends = in_number_few backends;
 }
+
+-- the same box, with this number of seconds
+abbrev pub with_closing : Option ℕ → BalancerBox → BalancerBox
+with_closing closing b = record b { closing = closing }
 
 abbrev pub box_meaning : BalancerBox → Meaning BalancerValue
 box_meaning b = balancer_meaning (settings_of b)

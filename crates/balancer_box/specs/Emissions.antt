@@ -58,8 +58,8 @@ trail_of s t [] = no_trail
 trail_of s t (x ∷ earlier) =
     cond (nat_eq x.thread t) (trail_by earlier s x.act (trail_of s t earlier)) (trail_of s t earlier)
 
--- the table that names a client's backend: as it was left, or as it was found where the packet closed its connection in
--- that touch
+-- the table that names a client's backend: as it was left, or as it was found where the packet resets its connection,
+-- which may be gone by that touch
 abbrev pub naming : Trail → Bool → Option Forwards
 naming r true = r.found
 naming r false = r.left

@@ -6,12 +6,14 @@ use Rattle.plain_machine.specs.declared.local.Local.{Local}
 use Rattle.balancer_box.specs.declared.place.Place.{Place}
 use Rattle.balancer_box.specs.declared.place.Place.TheVariants.{HearsTime, FindsConnection, LowersIdle, RaisesLeast}
 use Rattle.balancer_box.specs.declared.place.Place.TheVariants.{Connects, LowersSpare, ChecksConnection, CountsDrop}
-use Rattle.balancer_box.specs.declared.place.Place.TheVariants.{SendsOut, Ends}
+use Rattle.balancer_box.specs.declared.place.Place.TheVariants.{SendsOut, LowersVain, Ends}
 use Rattle.balancer_box.specs.declared.place.Class.{Class}
 use Rattle.balancer_box.specs.declared.place.Class.TheVariants.{Client, Answer}
+use Rattle.balancer_box.specs.declared.place.Tells.{Tells}
+use Rattle.balancer_box.specs.declared.place.Tells.TheVariants.{Nothing, Opens, Finishes, Resets}
 use Rattle.balancer_box.specs.declared.place.Noted.{Noted}
 use Rattle.balancer_box.specs.Places.{number_of, place_numbered, number_of_class, class_of, number_of_flag, noted}
-use Rattle.balancer_box.specs.Places.{local_of}
+use Rattle.balancer_box.specs.Places.{number_of_tells, tells_numbered, local_of}
 
 pub place_again : (p : Place) → place_numbered (number_of p) ≡ p
 place_again HearsTime = refl
@@ -23,6 +25,7 @@ place_again LowersSpare = refl
 place_again ChecksConnection = refl
 place_again CountsDrop = refl
 place_again SendsOut = refl
+place_again LowersVain = refl
 place_again Ends = refl
 
 pub class_again : (c : Class) → class_of (number_of_class c) ≡ c
@@ -32,6 +35,12 @@ class_again Answer = refl
 pub flag_again : (b : Bool) → (number_of_flag b == 1) ≡ b
 flag_again true = refl
 flag_again false = refl
+
+pub tells_again : (t : Tells) → tells_numbered (number_of_tells t) ≡ t
+tells_again Nothing = refl
+tells_again Opens = refl
+tells_again Finishes = refl
+tells_again Resets = refl
 
 -- each number fits its field, with this number of backends
 pub record IsNoted (backends : ℕ) (n : Noted) : Type 0 where
@@ -63,6 +72,7 @@ noted_again backends p n is =
     let a3 : n.client.port % 2 ^ 16 ≡ n.client.port = omega (arith, is.port) in
     let a4 : (number_of_flag n.resets == 1) ≡ n.resets = flag_again n.resets in
     let a5 : n.backend % backends ≡ n.backend = small_again n.backend backends is.backend in
+    let a7 : tells_numbered (number_of_tells n.tells) ≡ n.tells = tells_again n.tells in
     let a6 : n.spare % backends ≡ n.spare = small_again n.spare backends is.spare in
     λ i. record {
       class = c i;
@@ -72,4 +82,5 @@ noted_again backends p n is =
       backend = a5 i;
       spare = a6 i;
       reason = n.reason;
+      tells = a7 i;
     }

@@ -5,9 +5,11 @@ use Rattle.flow_boxes.specs.Flows.{endpoint}
 use Rattle.balancer_box.specs.declared.place.Place.{Place}
 use Rattle.balancer_box.specs.declared.place.Place.TheVariants.{HearsTime, FindsConnection, LowersIdle, RaisesLeast}
 use Rattle.balancer_box.specs.declared.place.Place.TheVariants.{Connects, LowersSpare, ChecksConnection, CountsDrop}
-use Rattle.balancer_box.specs.declared.place.Place.TheVariants.{SendsOut, Ends}
+use Rattle.balancer_box.specs.declared.place.Place.TheVariants.{SendsOut, LowersVain, Ends}
 use Rattle.balancer_box.specs.declared.place.Class.{Class}
 use Rattle.balancer_box.specs.declared.place.Class.TheVariants.{Client, Answer}
+use Rattle.balancer_box.specs.declared.place.Tells.{Tells}
+use Rattle.balancer_box.specs.declared.place.Tells.TheVariants.{Nothing, Opens, Finishes, Resets}
 use Rattle.balancer_box.specs.declared.place.Noted.{Noted}
 
 -- the number of a place; each other number is the end
@@ -21,13 +23,15 @@ number_of LowersSpare = 5
 number_of ChecksConnection = 6
 number_of CountsDrop = 7
 number_of SendsOut = 8
-number_of Ends = 9
+number_of LowersVain = 9
+number_of Ends = 10
 
 abbrev pub place_numbered : ℕ → Place
 place_numbered at =
     if at == 0 then HearsTime else if at == 1 then FindsConnection else if at == 2 then LowersIdle else if at == 3
     then RaisesLeast else if at == 4 then Connects else if at == 5 then LowersSpare else if at == 6
-    then ChecksConnection else if at == 7 then CountsDrop else if at == 8 then SendsOut else Ends
+    then ChecksConnection else if at == 7 then CountsDrop else if at == 8 then SendsOut else if at == 9
+    then LowersVain else Ends
 
 abbrev pub number_of_class : Class → ℕ
 number_of_class Client = 0
@@ -40,6 +44,16 @@ abbrev pub number_of_flag : Bool → ℕ
 number_of_flag true = 1
 number_of_flag false = 0
 
+abbrev pub number_of_tells : Tells → ℕ
+number_of_tells Nothing = 0
+number_of_tells Opens = 1
+number_of_tells Finishes = 2
+number_of_tells Resets = 3
+
+abbrev pub tells_numbered : ℕ → Tells
+tells_numbered number =
+    if number == 0 then Nothing else if number == 1 then Opens else if number == 2 then Finishes else Resets
+
 -- what the Local has noted, with this number of backends
 abbrev pub noted : ℕ → Local → Noted
 noted backends l = record {
@@ -50,6 +64,7 @@ noted backends l = record {
   backend = slice_index l.regs 6 % backends;
   spare = slice_index l.regs 7 % backends;
   reason = slice_index l.regs 8;
+  tells = tells_numbered (slice_index l.regs 9);
 }
 
 -- the Local that notes this
@@ -58,5 +73,5 @@ local_of place n = record {
   at = number_of place;
   regs =
       number_of_class n.class ∷ n.client.protocol ∷ n.client.address ∷ n.client.port ∷ number_of_flag n.resets ∷ n.time
-      ∷ n.backend ∷ n.spare ∷ n.reason ∷ 0 ∷ 0 ∷ 0 ∷ [];
+      ∷ n.backend ∷ n.spare ∷ n.reason ∷ number_of_tells n.tells ∷ 0 ∷ 0 ∷ [];
 }

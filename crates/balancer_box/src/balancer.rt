@@ -8,7 +8,9 @@ use nat_tables::Endpoint;
 ///
 /// A new client is connected to the backend of least load, the first of equals, and stays there while its connection is
 /// not idle. A client's packets go to its backend, and the backend's answers come from the virtual address and port. A
-/// TCP packet with RST closes its connection.
+/// TCP packet with RST closes its connection. Where TCP connections are followed to their end, one that both sides
+/// ended, or one reset, counts for no load any more, and is kept for a number of seconds of its own, in which its
+/// client may open another.
 ///
 /// Variable 0 counts drops by reason, variable 1 is the load of each backend, and the next `shards` variables are the
 /// connection tables.
@@ -22,6 +24,9 @@ pub struct BalancerBox {
     pub port: u16,
     /// The backends, 1 to 64.
     pub backends: Backends,
+    /// For how many seconds a TCP connection that both sides ended, or one reset, is kept without use. Where there is
+    /// no such number, connections are not followed, and a reset closes one at once.
+    pub closing: Option<u32>,
     pub ghost some: { 1 ≤ shards },
     pub ghost few: { shards ≤ 64 },
     pub ghost some_backends: { 1 ≤ length backends },
@@ -31,7 +36,7 @@ pub struct BalancerBox {
 impl BalancerBox {
     ghost use Rattle.std.specs.Prelude.{◌≡◌, ◌≤◌, ◌<◌, length, IfSome};
     ghost use Rattle.balancer_box.specs.Balancer.{is_virtual, backend_at, table_of};
-    ghost use Rattle.balancer_box.specs.Boxes.{settings_of, box_with};
+    ghost use Rattle.balancer_box.specs.Boxes.{settings_of, box_with, with_closing};
 
     /// The box with this number of tables, this virtual address and port, and these backends.
     pub fn new(shards: u32, address: u32, port: u16, backends: Backends) -> Self
@@ -46,6 +51,20 @@ impl BalancerBox {
             address,
             port,
             backends,
+            closing: None,
+        }
+    }
+
+    /// The same box, which follows TCP connections to their end, where there is a number of seconds.
+    pub fn with_closing(self, closing: Option<u32>) -> Self
+        ensures { result ≡ with_closing closing self }
+    {
+        BalancerBox {
+            shards: self.shards,
+            address: self.address,
+            port: self.port,
+            backends: self.backends,
+            closing,
         }
     }
 

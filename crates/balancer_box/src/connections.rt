@@ -1,9 +1,10 @@
 ghost use Rattle.std.specs.Prelude.{◌≡◌, [], IfOk, OnErr, length};
-ghost use Rattle.nat_tables.specs.Forwards.{find_or_bind, mapping_at};
+ghost use Rattle.nat_tables.specs.Forwards.{find_or_bind, mapping_at, slot_of, refresh, without};
+ghost use Rattle.nat_tables.specs.Forwards.{with_phase, first_idle, idle_taken};
 ghost use Rattle.nat_tables.specs.Shown.{mappings_text};
 ghost use Rattle.balancer_box.specs.Connections.{find_connection, check_connection};
 
-use nat_tables::{Bind, Endpoint, Find, Forward, Mapping};
+use nat_tables::{Bind, Endpoint, Find, Forward, Mapping, Phase, Slot};
 use plain_text::{NoMemory, Text};
 use std::alloc::Global;
 use std::marker::Model;
@@ -76,6 +77,41 @@ impl Connections {
             self.table.remove(client);
         }
         there
+    }
+
+    /// The connection of a client.
+    pub(crate) fn slot_of(&self, client: &Endpoint) -> Option<Slot>
+        ensures { result ≡ slot_of client.now self.now }
+    {
+        self.table.slot_of(client)
+    }
+
+    /// Notes a use of a client's connection, if there is one.
+    pub(crate) fn refresh(&mut self, client: &Endpoint, now: u64)
+        ensures { self.new ≡ refresh client.now now self.old }
+    {
+        self.table.refresh(client, now);
+    }
+
+    /// Puts a client's connection into another phase, if there is one.
+    pub(crate) fn set_phase(&mut self, client: &Endpoint, phase: Phase)
+        ensures { self.new ≡ with_phase client.now phase self.old }
+    {
+        self.table.set_phase(client, phase);
+    }
+
+    /// Removes a client's connection, if there is one.
+    pub(crate) fn remove(&mut self, client: &Endpoint)
+        ensures { self.new ≡ without client.now self.old }
+    {
+        self.table.remove(client);
+    }
+
+    /// Removes the first connection that is idle, in first-seen order, if there is one, and answers it.
+    pub(crate) fn take_first_idle(&mut self, now: u64) -> Option<(Endpoint, Slot)>
+        ensures { (result, self.new) ≡ idle_taken now self.old (first_idle now self.old) }
+    {
+        self.table.take_first_idle(now)
     }
 
     /// How many connections there are.

@@ -6,9 +6,9 @@ ghost use Rattle.balancer_box.specs.Entries.{ConnectionsKeepBackends};
 ghost use Rattle.balancer_box.specs.Emissions.{EmissionsFollowConnections};
 
 /// After each move of each run, whatever its threads, its inputs and the order of its moves, the load of each backend
-/// is its charge: the connections of all tables that name it, and the packets in hand that have added to its load and
-/// neither connected nor lowered it again, or that have removed a connection of it and not lowered the load yet. All is
-/// modulo 2^64.
+/// is its charge: the connections of all tables that name it and have not ended, and the packets in hand that have
+/// added to its load and neither connected nor lowered it again, or that have removed or ended a connection of it and
+/// not lowered the load yet. All is modulo 2^64.
 pub fn loads_are_charges()
     ensures { LoadsAreCharges }
 {}

@@ -4,6 +4,7 @@
 mod backends;
 mod balancer;
 mod connections;
+mod following;
 mod laws;
 mod loads;
 mod place;
@@ -20,5 +21,5 @@ pub use laws::{
     loads_are_charges,
 };
 pub use loads::Loads;
-pub use place::{Class, Goes, Noted, Place};
+pub use place::{Class, Goes, Noted, Place, Tells};
 pub use value::BalancerValue;

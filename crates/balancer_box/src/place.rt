@@ -1,6 +1,7 @@
 ghost use Rattle.std.specs.Prelude.{◌≡◌, ◌≤◌, IsTrue};
 ghost use Rattle.balancer_box.specs.Places.{number_of, place_numbered, number_of_class, class_of};
-ghost use Rattle.balancer_box.specs.Places.{number_of_flag, noted, local_of};
+ghost use Rattle.balancer_box.specs.Places.{number_of_flag, number_of_tells, tells_numbered};
+ghost use Rattle.balancer_box.specs.Places.{noted, local_of};
 
 use box_program::Local;
 use nat_tables::Endpoint;
@@ -18,8 +19,10 @@ pub enum Place {
     RaisesLeast,
     /// It connects its client to this backend, unless the client has a connection by now.
     Connects,
-    /// It lowers the load of a backend that was chosen in vain, or whose connection it closed.
+    /// It lowers the load of a backend that was chosen in vain, or whose connection it closed or ended.
     LowersSpare,
+    /// It lowers the load of a backend that was chosen in vain, and then that of one whose connection it ended.
+    LowersVain,
     /// It looks up whether the client that it goes to is connected to the backend that it comes from.
     ChecksConnection,
     /// It is counted as dropped.
@@ -45,7 +48,8 @@ impl Place {
             Place::ChecksConnection => 6,
             Place::CountsDrop => 7,
             Place::SendsOut => 8,
-            Place::Ends => 9,
+            Place::LowersVain => 9,
+            Place::Ends => 10,
         }
     }
 
@@ -63,6 +67,7 @@ impl Place {
             6 => Place::ChecksConnection,
             7 => Place::CountsDrop,
             8 => Place::SendsOut,
+            9 => Place::LowersVain,
             _ => Place::Ends,
         }
     }
@@ -97,6 +102,43 @@ impl Class {
     }
 }
 
+/// What a segment tells of its connection, by its control bits (RFC 9293, section 3.1).
+#[derive(Clone, Copy, Debug, PartialEq, Eq)]
+pub enum Tells {
+    /// Nothing: it is none of the others, or connections are not followed.
+    Nothing,
+    /// Its sender begins a connection: SYN, and none of ACK, FIN and RST.
+    Opens,
+    /// Its sender has no more to send: FIN, and no RST.
+    Finishes,
+    /// The connection is over: RST.
+    Resets,
+}
+
+impl Tells {
+    fn number(self) -> u64
+        ensures { result ≡ number_of_tells self }
+    {
+        match self {
+            Tells::Nothing => 0,
+            Tells::Opens => 1,
+            Tells::Finishes => 2,
+            Tells::Resets => 3,
+        }
+    }
+
+    fn numbered(number: u64) -> Tells
+        ensures { result ≡ tells_numbered number }
+    {
+        match number {
+            0 => Tells::Nothing,
+            1 => Tells::Opens,
+            2 => Tells::Finishes,
+            _ => Tells::Resets,
+        }
+    }
+}
+
 /// What is noted of a packet in hand.
 #[derive(Clone, Copy, Debug, PartialEq, Eq)]
 pub struct Noted {
@@ -113,6 +155,8 @@ pub struct Noted {
     pub spare: u16,
     /// The reason for which it is dropped.
     pub reason: u64,
+    /// What it tells of its connection, where connections are followed.
+    pub tells: Tells,
 }
 
 impl Noted {
@@ -134,6 +178,7 @@ impl Noted {
             backend: (local.regs[6] % backends) as u16,
             spare: (local.regs[7] % backends) as u16,
             reason: local.regs[8],
+            tells: Tells::numbered(local.regs[9]),
         }
     }
 }
@@ -169,7 +214,7 @@ impl Goes {
                 u64::from(noted.backend),
                 u64::from(noted.spare),
                 noted.reason,
-                0,
+                noted.tells.number(),
                 0,
                 0,
             ],

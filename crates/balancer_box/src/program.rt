@@ -56,7 +56,9 @@ impl Program for BalancerBox {
             Place::FindsConnection | Place::Connects | Place::ChecksConnection => {
                 Move::Access(self.table_of(&self.noted(local).client))
             }
-            Place::LowersIdle | Place::RaisesLeast | Place::LowersSpare => Move::Access(1),
+            Place::LowersIdle | Place::RaisesLeast | Place::LowersSpare | Place::LowersVain => {
+                Move::Access(1)
+            }
             Place::CountsDrop => Move::Access(0),
             Place::SendsOut => Move::Emit,
             Place::Ends => Move::End,
@@ -75,7 +77,9 @@ impl Program for BalancerBox {
         let goes = match value {
             BalancerValue::Dropped(drops) => noted.touch_drops(place, drops),
             BalancerValue::Loaded(loads) => noted.touch_loads(place, loads),
-            BalancerValue::Connected(table) => noted.touch_connections(place, table)?,
+            BalancerValue::Connected(table) => {
+                noted.touch_connections(self.closing, place, table)?
+            }
         };
         *local = goes.local();
         Ok(())

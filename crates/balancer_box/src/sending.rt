@@ -2,17 +2,24 @@ ghost use Rattle.std.specs.Prelude.{◌≡◌, IfOk, slice_get};
 ghost use Rattle.packet_headers.specs.Rewriting.{CanRewrite};
 ghost use Rattle.balancer_box.specs.Balancer.{begun, begun_flow, frame_to, frame_out, bytes_out};
 ghost use Rattle.balancer_box.specs.Balancer.{of_client, of_answer, resets, nothing_noted};
+ghost use Rattle.balancer_box.specs.Balancer.{tells_of, tells_by};
 ghost use Rattle.balancer_box.specs.Boxes.{settings_of};
 
-use crate::{Backend, BalancerBox, Class, Goes, Noted, Place};
+use crate::{Backend, BalancerBox, Class, Goes, Noted, Place, Tells};
 use flow_boxes::{STRAY, reason_of};
 use nat_tables::Endpoint;
 use packet_headers::{Flow, NotFlow, set_dest, set_source};
 use plain_text::{Bytes, NoMemory};
 use std::alloc::Global;
 
-/// The control bit RST of TCP (RFC 9293, section 3.1).
+/// The control bits of TCP (RFC 9293, section 3.1).
+const FIN: u8 = 1;
+
+const SYN: u8 = 2;
+
 const RST: u8 = 4;
+
+const ACK: u8 = 16;
 
 impl Noted {
     /// Nothing is noted but the reason for which the packet is dropped.
@@ -31,12 +38,13 @@ impl Noted {
             backend: 0,
             spare: 0,
             reason,
+            tells: Tells::Nothing,
         }
     }
 
     /// What is noted of a client's packet as it begins.
-    fn of_client(flow: &Flow) -> Noted
-        ensures { result ≡ of_client flow.now }
+    fn of_client(tells: Tells, flow: &Flow) -> Noted
+        ensures { result ≡ of_client tells flow.now }
     {
         Noted {
             class: Class::Client,
@@ -50,12 +58,13 @@ impl Noted {
             backend: 0,
             spare: 0,
             reason: 0,
+            tells,
         }
     }
 
     /// What is noted of an answer from a backend as it begins.
-    fn of_answer(flow: &Flow, backend: u16) -> Noted
-        ensures { result ≡ of_answer flow.now backend }
+    fn of_answer(tells: Tells, flow: &Flow, backend: u16) -> Noted
+        ensures { result ≡ of_answer tells flow.now backend }
     {
         Noted {
             class: Class::Answer,
@@ -69,6 +78,7 @@ impl Noted {
             backend,
             spare: 0,
             reason: 0,
+            tells,
         }
     }
 }
@@ -80,25 +90,53 @@ fn resets(flow: &Flow) -> bool
     flow.flags & RST != 0
 }
 
+/// What a segment with these control bits tells of its connection.
+fn tells_of(flags: u8) -> Tells
+    ensures { result ≡ tells_of flags }
+{
+    if flags & RST != 0 {
+        Tells::Resets
+    } else if flags & FIN != 0 {
+        Tells::Finishes
+    } else if flags & SYN != 0 && flags & ACK == 0 {
+        Tells::Opens
+    } else {
+        Tells::Nothing
+    }
+}
+
 impl BalancerBox {
+    /// What a segment tells, where connections are followed.
+    fn tells(&self, flow: &Flow) -> Tells
+        ensures { result ≡ tells_by (settings_of self.now).closing flow.now.flags }
+    {
+        match self.closing {
+            Some(_) => tells_of(flow.flags),
+            None => Tells::Nothing,
+        }
+    }
+
     /// Where a packet begins, by its view.
     pub(crate) fn begun(&self, seen: Result<Flow, NotFlow>) -> Goes
         ensures { result ≡ begun (settings_of self.now) seen }
     {
         match seen {
-            Ok(flow) => self.begun_flow(&flow),
+            Ok(flow) => self.begun_flow(self.tells(&flow), &flow),
             Err(answer) => Goes::to(Place::CountsDrop, Noted::reason(reason_of(answer))),
         }
     }
     /// Where a flow begins: from its client, or from its backend; else it is dropped as stray.
-    fn begun_flow(&self, flow: &Flow) -> Goes
-        ensures { result ≡ begun_flow (settings_of self.now) flow.now }
+    fn begun_flow(&self, tells: Tells, flow: &Flow) -> Goes
+        ensures { result ≡ begun_flow (settings_of self.now) tells flow.now }
     {
         if self.is_virtual(flow.dest, flow.dest_port) {
-            return Goes::to(Place::HearsTime, Noted::of_client(flow));
+            return Goes::to(Place::HearsTime, Noted::of_client(tells, flow));
         }
         match self.backend_at(flow.source, flow.source_port) {
-            Some(backend) => Goes::to(Place::HearsTime, Noted::of_answer(flow, backend as u16)),
+            Some(backend) => Goes::to(
+                Place::HearsTime,
+                Noted::of_answer(tells, flow, backend as u16),
+            ),
             None => Goes::to(Place::CountsDrop, Noted::reason(STRAY)),
         }
     }

@@ -1,6 +1,7 @@
-ghost use Rattle.std.specs.Prelude.{◌≡◌, ◌≤◌, ◌<◌, ◌^◌, IfOk, OnErr, length};
+ghost use Rattle.std.specs.Prelude.{◌≡◌, ◌≤◌, ◌<◌, ◌^◌, ℕ, IfOk, OnErr, length, Option, None};
 ghost use Rattle.balancer_box.specs.Balancer.{goes, dropped, begins, goes_to, after_find};
-ghost use Rattle.balancer_box.specs.Balancer.{after_bind, after_check, touched, told};
+ghost use Rattle.balancer_box.specs.Balancer.{after_bind, after_check, touched, told, no_connection};
+ghost use Rattle.balancer_box.specs.Balancer.{finds, connects, checks};
 ghost use Rattle.balancer_box.specs.declared.value.BalancerValue.TheVariants.{Dropped, Loaded};
 ghost use Rattle.balancer_box.specs.declared.value.BalancerValue.TheVariants.{Connected};
 
@@ -29,7 +30,7 @@ impl Noted {
     }
 
     /// The packet is of no connection: it begins one, unless it resets it.
-    fn begins(self) -> Goes
+    pub(crate) fn begins(self) -> Goes
         ensures { result ≡ begins self self.resets }
     {
         if self.resets {
@@ -39,12 +40,19 @@ impl Noted {
         }
     }
 
-    /// The packet goes to the backend of its connection, or comes from there. Where it resets the connection, the load
-    /// of the backend is lowered first.
-    fn goes_to(self, backend: u16) -> Goes
-        ensures { result ≡ goes_to self self.resets backend }
+    /// The packet is an answer to a client that is not connected to its backend.
+    pub(crate) fn unconnected(self) -> Goes
+        ensures { result ≡ dropped self no_connection }
     {
-        if self.resets {
+        self.dropped(NO_CONNECTION)
+    }
+
+    /// The packet goes to the backend of its connection, or comes from there. Where it closed or ended the connection,
+    /// the load of the backend is lowered first.
+    pub(crate) fn goes_to_where(self, ends: bool, backend: u16) -> Goes
+        ensures { result ≡ goes_to self ends backend }
+    {
+        if ends {
             Goes::to(
                 Place::LowersSpare,
                 Noted {
@@ -56,6 +64,12 @@ impl Noted {
         } else {
             Goes::to(Place::SendsOut, Noted { backend, ..self })
         }
+    }
+
+    fn goes_to(self, backend: u16) -> Goes
+        ensures { result ≡ goes_to self self.resets backend }
+    {
+        self.goes_to_where(self.resets, backend)
     }
 
     fn after_find(self, found: Find) -> Goes
@@ -103,7 +117,8 @@ impl Noted {
 
     /// Touches the counts of drops.
     pub(crate) fn touch_drops(self, place: Place, drops: &mut Drops) -> Goes
-        ensures { (Dropped drops.new, result) ≡ touched place (Dropped drops.old) self }
+        ensures { (closing : Option ℕ)
+            → (Dropped drops.new, result) ≡ touched closing place (Dropped drops.old) self }
     {
         if place == Place::CountsDrop {
             drops.add(self.reason);
@@ -114,7 +129,8 @@ impl Noted {
     /// Touches the loads.
     pub(crate) fn touch_loads(self, place: Place, loads: &mut Loads) -> Goes
         requires { length loads.old ≤ 64 }
-        ensures { (Loaded loads.new, result) ≡ touched place (Loaded loads.old) self }
+        ensures { (closing : Option ℕ)
+            → (Loaded loads.new, result) ≡ touched closing place (Loaded loads.old) self }
     {
         match place {
             Place::LowersIdle => {
@@ -126,6 +142,16 @@ impl Noted {
                 loads.raise(backend);
                 Goes::to(Place::Connects, Noted { backend, ..self })
             }
+            Place::LowersVain => {
+                loads.lower(self.spare);
+                Goes::to(
+                    Place::LowersSpare,
+                    Noted {
+                        spare: self.backend,
+                        ..self
+                    },
+                )
+            }
             Place::LowersSpare => {
                 loads.lower(self.spare);
                 Goes::to(Place::SendsOut, self)
@@ -134,29 +160,61 @@ impl Noted {
         }
     }
 
+    /// A client's packet looks for its connection.
+    fn finds(self, closing: Option<u32>, table: &mut Connections) -> Goes
+        ensures { (table.new, result) ≡ finds closing self table.old }
+    {
+        match closing {
+            Some(seconds) => self.finds_followed(seconds, table),
+            None => {
+                let found = table.find(&self.client, self.time, self.resets);
+                self.after_find(found)
+            }
+        }
+    }
+
+    /// A client's packet connects its client.
+    fn connects(self, closing: Option<u32>, table: &mut Connections) -> Result<Goes, NoMemory>
+        ensures ok { IfOk result (λ goes. (table.new, goes) ≡ connects closing self table.old) }
+        ensures err { OnErr result (table.new ≡ table.old) }
+    {
+        match closing {
+            Some(seconds) => self.connects_followed(seconds, table),
+            None => {
+                let bind = table.find_or_bind(&self.client, self.backend, self.time)?;
+                Ok(self.after_bind(bind))
+            }
+        }
+    }
+
+    /// An answer looks for its client's connection.
+    fn checks(self, closing: Option<u32>, table: &mut Connections) -> Goes
+        ensures { (table.new, result) ≡ checks closing self table.old }
+    {
+        match closing {
+            Some(seconds) => self.checks_followed(seconds, table),
+            None => {
+                let there = table.check(&self.client, self.backend, self.time, self.resets);
+                self.after_check(there)
+            }
+        }
+    }
+
     /// Touches a connection table.
     pub(crate) fn touch_connections(
         self,
+        closing: Option<u32>,
         place: Place,
         table: &mut Connections,
     ) -> Result<Goes, NoMemory>
         ensures ok { IfOk result (λ goes. (Connected table.new, goes)
-            ≡ touched place (Connected table.old) self) }
+            ≡ touched closing place (Connected table.old) self) }
         ensures err { OnErr result (table.new ≡ table.old) }
     {
         match place {
-            Place::FindsConnection => {
-                let found = table.find(&self.client, self.time, self.resets);
-                Ok(self.after_find(found))
-            }
-            Place::Connects => {
-                let bind = table.find_or_bind(&self.client, self.backend, self.time)?;
-                Ok(self.after_bind(bind))
-            }
-            Place::ChecksConnection => {
-                let there = table.check(&self.client, self.backend, self.time, self.resets);
-                Ok(self.after_check(there))
-            }
+            Place::FindsConnection => Ok(self.finds(closing, table)),
+            Place::Connects => self.connects(closing, table),
+            Place::ChecksConnection => Ok(self.checks(closing, table)),
             _ => Ok(Goes::to(Place::Ends, self)),
         }
     }

@@ -1,62 +1,106 @@
 -- An answer goes out by a connection that is not idle.
-use Rattle.std.proofs.Common.{◌≡◌, ◌≢◌, ℕ, ◌+◌, ◌<◌, Bool, true, false, refl, sym, ap, ◌∙◌, subst}
-use Rattle.std.proofs.Common.{inl, inr, arith, Option, Some, None}
-use Rattle.std.specs.Prelude.{◌==◌, ◌&&◌, not, nat_lt}
+use Rattle.std.proofs.Common.{◌≡◌, ◌≢◌, ℕ, ◌+◌, ◌<◌, Bool, true, false, List, [], ◌∷◌, refl, sym, ap, ◌∙◌, subst}
+use Rattle.std.proofs.Common.{◌⊎◌, inl, inr, Option, Some, None}
+use Rattle.std.specs.Prelude.{◌==◌, not}
 use Rattle.std.proofs.lemmas.Bool.{eqb-true}
-use Rattle.std.proofs.lemmas.Bool.Decides.{nat_tests}
+use Rattle.plain_text.specs.declared.packet.Packet.{Packet}
+use Rattle.entry_order.proofs.Order.{is_or}
 use Rattle.packet_headers.specs.declared.flow.Flow.{Flow}
+use Rattle.plain_machine.specs.Machine.{Hand, Effect, Takes, Touches, Looks, HearsClock, HearsDraw, Sends}
+use Rattle.plain_machine.specs.Machine.{Ends as EndsIt}
+use Rattle.plain_machine.specs.History.{Step, act_of, thread_after, value_after, IsHistory}
+use Rattle.plain_machine.proofs.Histories.{not_eq, is_eq}
+use Rattle.plain_machine.proofs.Bounds.{values_fit}
 use Rattle.nat_tables.specs.declared.entries.Endpoint.{Endpoint}
 use Rattle.nat_tables.specs.declared.slot.Slot.{Slot}
-use Rattle.nat_tables.specs.declared.phase.Phase.TheVariants.{Plain}
-use Rattle.nat_tables.specs.Phases.{timer}
-use Rattle.nat_tables.specs.Forwards.{is_idle, slot_of, lives_at}
-use Rattle.balancer_box.specs.Balancer.{is_virtual, backend_at}
+use Rattle.nat_tables.specs.Forwards.{Forwards, is_idle, slot_of, lives_at}
 use Rattle.flow_boxes.specs.Flows.{dest_of}
-use Rattle.balancer_box.specs.Emissions.{Trail, trail_of, Lived, IsSentOnOf}
+use Rattle.balancer_box.specs.declared.place.Place.{Place}
+use Rattle.balancer_box.specs.declared.place.Noted.{Noted}
+use Rattle.balancer_box.specs.declared.value.BalancerValue.{BalancerValue}
+use Rattle.balancer_box.specs.declared.value.BalancerValue.TheVariants.{Dropped, Loaded, Connected}
+use Rattle.balancer_box.specs.Places.{place_numbered}
+use Rattle.balancer_box.specs.Balancer.{Settings, is_virtual, backend_at, noted_by, balancer_meaning, HasPhase, Fits}
+use Rattle.balancer_box.specs.Lawful.{AreSettings, var_of, touches_it, below_all, balancer_lawful}
+use Rattle.balancer_box.specs.Emissions.{Trail, newer, trail_by, trail_of, Lived, IsSentOnOf}
 use Rattle.balancer_box.proofs.Emissions.{emissions_follow}
-use Rattle.balancer_runs.specs.Answering.{IsBusyAt, MetBusy, AnswersComeBeforeIdle}
-use Rattle.balancer_runs.proofs.PlainTables.{run_plain}
+use Rattle.balancer_box.proofs.Making.{Made, made}
+use Rattle.balancer_runs.specs.Idle.{IsBusyAt}
+use Rattle.balancer_runs.specs.Answering.{MetBusy, AnswersComeBeforeIdle}
+use Rattle.balancer_runs.proofs.Tables.{busy_is}
+use Rattle.balancer_runs.proofs.Following.{connection_phase}
+use Rattle.balancer_runs.proofs.Knowing.{both}
 
-busy_is : (now : ℕ) (client : Endpoint) (slot : Slot) → slot.phase ≡ Plain → is_idle now (client, slot) ≡ false
-    → IsBusyAt now client slot
-busy_is now client slot plain busy = by (client.protocol == 6) refl
+-- The table that a packet's moves found has the phases of connections
+
+abbrev HavePhases : Settings → Option Forwards → Type 0
+HavePhases s None = Unit {0}
+HavePhases s (Some es) =
+    (client : Endpoint) (slot : Slot) → slot_of client es ≡ Some slot → HasPhase s.closing client.protocol slot.phase
+
+newer_phases : (s : Settings) (v : ℕ) (x : BalancerValue) (old : Option Forwards) → Fits s v x → HavePhases s old
+    → HavePhases s (newer x old)
+newer_phases s v (Dropped d) old fits had = had
+newer_phases s v (Loaded loads) old fits had = had
+newer_phases s v (Connected es) old fits had = λ client slot at. connection_phase s v (Connected es) client slot fits at
+
+made_phases : (s : Settings) (is : AreSettings s) (packets : List Packet) (t : ℕ) (earlier : List (Step BalancerValue))
+    (taken taken_then : ℕ) (before after : Option Hand) (d : Effect BalancerValue)
+    → ((v : ℕ) → v < 2 + s.shards → Fits s v (value_after (balancer_meaning s) earlier v)) → (r : Trail)
+    → HavePhases s r.found → Made s packets taken (value_after (balancer_meaning s) earlier) before after d
+    → HavePhases s (trail_by earlier s (act_of t earlier taken_then d) r).found
+made_phases s is packets t earlier taken tn before after Takes fits r had m = tt
+made_phases s is packets t earlier taken tn before after (Touches v left) fits r had m =
+    let h : Hand = m.0 in
+    let place : Place = place_numbered h.place.at in
+    let n : Noted = noted_by s h.place in
+    let at : var_of s place n ≡ v = touches_it s place n v m.2 in
+    let below : v < 2 + s.shards = subst (λ (u : ℕ). u < 2 + s.shards) at (below_all s place n is.some) in
+    newer_phases s v (value_after (balancer_meaning s) earlier v) r.found (fits v below) had
+made_phases s is packets t earlier taken tn before after (Looks v) fits r had m = absurd m
+made_phases s is packets t earlier taken tn before after (HearsClock a) fits r had m = had
+made_phases s is packets t earlier taken tn before after (HearsDraw a) fits r had m = absurd m
+made_phases s is packets t earlier taken tn before after (Sends q) fits r had m = had
+made_phases s is packets t earlier taken tn before after EndsIt fits r had m = had
+
+run_phases : (s : Settings) (threads : ℕ) (inputs : ℕ → List Packet) (steps : List (Step BalancerValue)) → AreSettings s
+    → IsHistory (balancer_meaning s) inputs threads steps → (t : ℕ) → HavePhases s (trail_of s t steps).found
+run_phases s threads inputs [] is h t = tt
+run_phases s threads inputs (x ∷ earlier) is h t =
+    let m = made s (inputs x.thread) (value_after (balancer_meaning s) earlier) (thread_after earlier x.thread).taken
+    x.after h.0.2 (thread_after earlier x.thread).hand h.0.1 h.0.3 in
+    let fits = values_fit (balancer_meaning s) (Fits s) (balancer_lawful s is) inputs threads earlier h.1 in
+    let new = made_phases s is (inputs x.thread) x.thread earlier (thread_after earlier x.thread).taken x.after.taken
+    (thread_after earlier x.thread).hand x.after.hand h.0.2 fits (trail_of s x.thread earlier)
+    (run_phases s threads inputs earlier is h.1 x.thread) m in
+    by (is_or x.thread t) new (run_phases s threads inputs earlier is h.1 t)
   where
-    early : (n : ℕ) → timer client.protocol slot.phase ≡ n → now < slot.last + n
-    early n e =
-        let t : not (nat_lt now (slot.last + n)) ≡ false =
-        subst (λ (k : ℕ). not (nat_lt now (slot.last + k)) ≡ false) e busy in
-        tested (slot.last + n) (nat_lt now (slot.last + n)) refl t
-      where
-        tested : (m : ℕ) (b : Bool) → nat_lt now m ≡ b → not b ≡ false → now < m
-        tested m true q t = grind (arith, nat_tests)
-        tested m false q t = absurd (cc)
+    by : (x.thread ≡ t) ⊎ (x.thread ≢ t)
+        → HavePhases s
+        (trail_by earlier s (act_of x.thread earlier x.after.taken h.0.2) (trail_of s x.thread earlier)).found
+        → HavePhases s (trail_of s t earlier).found → HavePhases s (trail_of s t (x ∷ earlier)).found
+    by (inl e) new old =
+        subst (λ (u : ℕ). HavePhases s (trail_of s u (x ∷ earlier)).found) e
+        (rw (is_eq x.thread x.thread refl, h.0.4) new)
+    by (inr e) new old = rw (not_eq x.thread t e) old
 
-    by : (b : Bool) → (client.protocol == 6) ≡ b → IsBusyAt now client slot
-    by true q =
-        let is : client.protocol ≡ 6 = grind (arith, nat_tests) in
-        let a = early 7440000000 (rw (plain, q) refl) in (λ k. a, λ k. absurd (k is))
-    by false q =
-        let off : client.protocol ≢ 6 = (λ e. absurd (grind (arith, nat_tests))) in
-        let a = early 300000000 (rw (plain, q) refl) in (λ k. absurd (off k), λ k. a)
-
-both : (a b : Bool) → (a && b) ≡ true → (a ≡ true) × (b ≡ true)
-both true b e = (refl, e)
-both false b e = absurd (cc)
+-- Answers
 
 not_true : (b : Bool) → not b ≡ true → b ≡ false
 not_true true e = absurd (cc)
 not_true false e = refl
 
-lives_busy : (client : Endpoint) (backend now : ℕ) (o : Option Slot)
-    → ((slot : Slot) → o ≡ Some slot → slot.phase ≡ Plain) → lives_at client backend now o ≡ true
+lives_busy : (closing : Option ℕ) (client : Endpoint) (backend now : ℕ) (o : Option Slot)
+    → ((slot : Slot) → o ≡ Some slot → HasPhase closing client.protocol slot.phase)
+    → lives_at client backend now o ≡ true
     → (slot : Slot) × (o ≡ Some slot) × (slot.port ≡ backend) × IsBusyAt now client slot
-lives_busy client backend now None plain is = absurd (cc)
-lives_busy client backend now (Some slot) plain is =
+lives_busy closing client backend now None has is = absurd (cc)
+lives_busy closing client backend now (Some slot) has is =
     let k = both (slot.port == backend) (not (is_idle now (client, slot))) is in (
       slot,
       refl,
       eqb-true _ _ k.0,
-      busy_is now client slot (plain slot refl) (not_true (is_idle now (client, slot)) k.1),
+      busy_is closing now client slot (has slot refl) (not_true (is_idle now (client, slot)) k.1),
     )
 
 pub answers_before_idle : AnswersComeBeforeIdle
@@ -70,8 +114,10 @@ answers_before_idle s threads inputs x earlier o p flow is bytes h sent input se
     lived : (number : ℕ) → backend_at s.backends flow.source flow.source_port ≡ Some number
         → Lived r (dest_of flow) number → MetBusy s flow r
     lived number at (es, now, found, clock, lives) =
-        let k = lives_busy (dest_of flow) number now (slot_of (dest_of flow) es)
-        (λ slot there. run_plain s threads inputs earlier is h.1 x.thread es found (dest_of flow) slot there) lives in
+        let have : HavePhases s (Some es) =
+        subst (HavePhases s) found (run_phases s threads inputs earlier is h.1 x.thread) in
+        let client : Endpoint = dest_of flow in
+        let k = lives_busy s.closing client number now (slot_of client es) (have client) lives in
         (es, now, k.0, found, clock, k.1, at ∙ ap Some (sym k.2), k.3)
 
     by : IsSentOnOf s r o.packet.bytes (Some p) → MetBusy s flow r

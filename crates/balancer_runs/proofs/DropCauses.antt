@@ -30,11 +30,11 @@ use Rattle.balancer_runs.proofs.Knowing.{KnownAt, Known, run_known}
 abbrev IsOneMore : ℕ → List ℕ → List ℕ → Type 0
 IsOneMore reason old new = new ≡ slice_set old (reason - 1) ((slice_index old (reason - 1) + 1) % 2 ^ 64)
 
-counts_more : (x : BalancerValue) (n : Noted) → HasNine x → IsReason n.reason
-    → IsOneMore n.reason (drop_counts x) (drop_counts (touched CountsDrop x n).0)
-counts_more (Dropped d) n nine is = counted_once n.reason d is
-counts_more (Loaded loads) n nine is = absurd nine
-counts_more (Connected es) n nine is = absurd nine
+counts_more : (c : Option ℕ) (x : BalancerValue) (n : Noted) → HasNine x → IsReason n.reason
+    → IsOneMore n.reason (drop_counts x) (drop_counts (touched c CountsDrop x n).0)
+counts_more c (Dropped d) n nine is = counted_once n.reason d is
+counts_more c (Loaded loads) n nine is = absurd nine
+counts_more c (Connected es) n nine is = absurd nine
 
 -- a touch of a variable is the effect of its step
 pub touches_it : {V : Type 0} (t taken v : ℕ) (earlier : List (Step V)) (d : Effect V) (entry : Entry) (place : ℕ)
@@ -69,7 +69,8 @@ module _ (s : Settings) (is : AreSettings s) (packets : List Packet) (t taken ta
       n : Noted
       n = noted_by s h.place
 
-      by : IsCounted 0 (place_numbered h.place.at) (value 0) n (touched (place_numbered h.place.at) (value 0) n)
+      by : IsCounted 0 (place_numbered h.place.at) (value 0) n
+          (touched s.closing (place_numbered h.place.at) (value 0) n)
           → (h : Hand) × (reason : ℕ) × (before ≡ Some h) × HasCause s r h.packet reason
           × IsOneMore reason (drop_counts (value 0)) (drop_counts left)
       by (inl k) = absurd (k.0 refl)
@@ -79,10 +80,11 @@ module _ (s : Settings) (is : AreSettings s) (packets : List Packet) (t taken ta
           let reason : IsReason n.reason = (subst (λ (p : Place). IsPlaced had p n.reason) at here).1 in
           let cause : HasCause s r h.packet n.reason =
           subst (λ (p : Place). KnownAt s r met h.packet p n) at (subst (Known s r met) m.1 known) in
-          let same : left ≡ (touched CountsDrop (value 0) n).0 =
-          m.3 ∙ ap (λ (p : Place). (touched p (value 0) n).0) at in
-          let more : IsOneMore n.reason (drop_counts (value 0)) (drop_counts (touched CountsDrop (value 0) n).0) =
-          counts_more (value 0) n nine reason in
+          let same : left ≡ (touched s.closing CountsDrop (value 0) n).0 =
+          m.3 ∙ ap (λ (p : Place). (touched s.closing p (value 0) n).0) at in
+          let more : IsOneMore n.reason (drop_counts (value 0))
+          (drop_counts (touched s.closing CountsDrop (value 0) n).0) =
+          counts_more s.closing (value 0) n nine reason in
           (h, n.reason, m.1, cause, ap drop_counts same ∙ more)
 
 pub drops_have : DropsHaveCauses

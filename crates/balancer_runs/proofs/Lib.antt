@@ -4,6 +4,6 @@ pub mod Tables
 pub mod Knowing
 pub mod Connections
 pub mod DropCauses
-pub mod PlainTables
 pub mod BusyConnections
 pub mod LoadTouches
+pub mod Following

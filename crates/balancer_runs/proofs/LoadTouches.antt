@@ -8,7 +8,7 @@ use Rattle.nat_tables.specs.declared.entries.Endpoint.{Endpoint}
 use Rattle.balancer_box.specs.declared.place.Place.{Place}
 use Rattle.balancer_box.specs.declared.place.Place.TheVariants.{HearsTime, FindsConnection, LowersIdle, RaisesLeast}
 use Rattle.balancer_box.specs.declared.place.Place.TheVariants.{Connects, LowersSpare, ChecksConnection, CountsDrop}
-use Rattle.balancer_box.specs.declared.place.Place.TheVariants.{SendsOut, Ends}
+use Rattle.balancer_box.specs.declared.place.Place.TheVariants.{SendsOut, LowersVain, Ends}
 use Rattle.balancer_box.specs.declared.place.Noted.{Noted}
 use Rattle.balancer_box.specs.declared.value.BalancerValue.{BalancerValue}
 use Rattle.balancer_box.specs.declared.value.BalancerValue.TheVariants.{Dropped, Loaded, Connected}
@@ -35,7 +35,7 @@ not_drops v e one = let k : 0 ≡ v = cc in omega arith
 
 -- the variable of the loads is none of the tables, and not that of the drops
 touch_changes : (s : Settings) → AreSettings s → (p : Place) (x : BalancerValue) (n : Noted)
-    → next_move s p n ≡ Access 1 → Fits s 1 x → Changes x (touched p x n).0
+    → next_move s p n ≡ Access 1 → Fits s 1 x → Changes x (touched s.closing p x n).0
 touch_changes s is HearsTime x n e fits = absurd (cc)
 touch_changes s is p (Dropped d) n e fits = absurd (omega (arith, fits))
 touch_changes s is p (Connected es) n e fits = absurd (omega (arith, fits.0))
@@ -44,6 +44,7 @@ touch_changes s is LowersIdle (Loaded loads) n e fits = (loads, n.spare, refl, i
 touch_changes s is RaisesLeast (Loaded loads) n e fits =
     (loads, least_loaded loads, refl, inl (has_least loads (omega (arith, fits.1, is.some_backends)), refl))
 touch_changes s is Connects (Loaded loads) n e fits = absurd (not_table s n.client e)
+touch_changes s is LowersVain (Loaded loads) n e fits = (loads, n.spare, refl, inr refl)
 touch_changes s is LowersSpare (Loaded loads) n e fits = (loads, n.spare, refl, inr refl)
 touch_changes s is ChecksConnection (Loaded loads) n e fits = absurd (not_table s n.client e)
 touch_changes s is CountsDrop (Loaded loads) n e fits = absurd (not_drops 1 e refl)

@@ -19,23 +19,29 @@ use Rattle.nat_tables.specs.declared.entries.Find.{Find}
 use Rattle.nat_tables.specs.declared.entries.Find.TheVariants.{Live, Absent}
 use Rattle.nat_tables.specs.declared.entries.Bind.{Bind}
 use Rattle.nat_tables.specs.declared.entries.Bind.TheVariants.{Bound, Other}
-use Rattle.nat_tables.specs.Forwards.{find_or_bind}
+use Rattle.nat_tables.specs.declared.entries.Endpoint.{Endpoint}
+use Rattle.nat_tables.specs.declared.slot.Slot.{Slot}
+use Rattle.nat_tables.specs.Forwards.{Forwards, is_idle, slot_of, first_idle, find_or_bind, lives_at}
 use Rattle.nat_tables.specs.Ports.{one_if}
 use Rattle.flow_boxes.specs.Drops.{reason_of}
 use Rattle.balancer_box.specs.declared.place.Place.{Place}
 use Rattle.balancer_box.specs.declared.place.Place.TheVariants.{HearsTime, FindsConnection, LowersIdle, RaisesLeast}
 use Rattle.balancer_box.specs.declared.place.Place.TheVariants.{Connects, LowersSpare, ChecksConnection, CountsDrop}
-use Rattle.balancer_box.specs.declared.place.Place.TheVariants.{SendsOut, Ends}
+use Rattle.balancer_box.specs.declared.place.Place.TheVariants.{SendsOut, LowersVain, Ends}
 use Rattle.balancer_box.specs.declared.place.Class.{Class}
 use Rattle.balancer_box.specs.declared.place.Class.TheVariants.{Client, Answer}
+use Rattle.balancer_box.specs.declared.place.Tells.{Tells}
 use Rattle.balancer_box.specs.declared.place.Noted.{Noted}
 use Rattle.balancer_box.specs.declared.value.BalancerValue.{BalancerValue}
 use Rattle.balancer_box.specs.declared.value.BalancerValue.TheVariants.{Dropped, Loaded, Connected}
 use Rattle.balancer_box.specs.declared.place.Goes.{Goes}
-use Rattle.balancer_box.specs.Connections.{find_connection, check_connection}
+use Rattle.balancer_box.specs.Connections.{find_connection, check_connection, has_ended}
 use Rattle.balancer_box.specs.Places.{place_numbered}
 use Rattle.balancer_box.specs.Balancer.{Settings, goes, next_move, is_virtual, backend_at, begun_answer, begun_flow}
 use Rattle.balancer_box.specs.Balancer.{begun, begins, goes_to, after_find, after_bind, after_check, touched}
+use Rattle.balancer_box.specs.Balancer.{tells_by, ends, after_idle, gives_way, met, met_there, met_by, new_slot}
+use Rattle.balancer_box.specs.Balancer.{gives_up, connected_by, checked_there, checked_by, finds, connects, checks}
+use Rattle.balancer_box.specs.Balancer.{dropped, no_connection}
 use Rattle.balancer_box.specs.Balancer.{after_time, told, local_at, noted_by, balancer_meaning, Fits}
 use Rattle.balancer_box.specs.Noting.{place_again}
 use Rattle.balancer_box.specs.Lawful.{AreSettings, var_of, touches_it, below_all, balancer_lawful}
@@ -50,6 +56,7 @@ is_over FindsConnection = false
 is_over LowersIdle = false
 is_over RaisesLeast = false
 is_over Connects = false
+is_over LowersVain = false
 is_over LowersSpare = false
 is_over ChecksConnection = false
 is_over CountsDrop = false
@@ -65,6 +72,7 @@ HasReason FindsConnection reason = Unit {0}
 HasReason LowersIdle reason = Unit {0}
 HasReason RaisesLeast reason = Unit {0}
 HasReason Connects reason = Unit {0}
+HasReason LowersVain reason = Unit {0}
 HasReason LowersSpare reason = Unit {0}
 HasReason ChecksConnection reason = Unit {0}
 HasReason CountsDrop reason = IsReason reason
@@ -104,11 +112,14 @@ begun_goes_on : (s : Settings) (seen : Result Flow NotFlow) → GoesOn (begun s 
 begun_goes_on s (Err why) = (refl, reasons why)
 begun_goes_on s (Ok flow) = by (is_virtual s flow.dest flow.dest_port) refl
   where
-    by_backend : (o : Option ℕ) → GoesOn (begun_answer flow o)
+    tells : Tells
+    tells = tells_by s.closing flow.flags
+
+    by_backend : (o : Option ℕ) → GoesOn (begun_answer tells flow o)
     by_backend (Some backend) = (refl, tt)
     by_backend None = (refl, (omega arith, omega arith))
 
-    by : (b : Bool) → is_virtual s flow.dest flow.dest_port ≡ b → GoesOn (begun_flow s flow)
+    by : (b : Bool) → is_virtual s flow.dest flow.dest_port ≡ b → GoesOn (begun_flow s tells flow)
     by true q = rw q (refl, tt)
     by false q = rw q (by_backend (backend_at s.backends flow.source flow.source_port))
 
@@ -131,9 +142,57 @@ bind_on : (n : Noted) (b : Bind) → GoesOn (after_bind n b)
 bind_on n Bound = (refl, tt)
 bind_on n (Other backend) = (refl, tt)
 
+idle_on : (n : Noted) (backend : ℕ) (b : Bool) → GoesOn (after_idle n backend b)
+idle_on n backend true = begins_on n n.resets
+idle_on n backend false = (refl, tt)
+
+unconnected_on : (n : Noted) → GoesOn (dropped n no_connection)
+unconnected_on n = (refl, (omega arith, omega arith))
+
 check_on : (n : Noted) (b : Bool) → GoesOn (after_check n b)
 check_on n true = goes_to_on n n.resets n.backend
 check_on n false = (refl, (omega arith, omega arith))
+
+finds_on : (c : Option ℕ) (n : Noted) (es : Forwards) → GoesOn (finds c n es).1
+finds_on None n es = find_on n (find_connection n.resets n.client n.time es).0
+finds_on (Some seconds) n es = by (slot_of n.client es) (first_idle n.time es)
+  where
+    met_on : (slot : Slot) (b : Bool) → GoesOn (met seconds n es slot b).1
+    met_on slot true = begins_on n n.resets
+    met_on slot false = goes_to_on n (ends seconds n slot) slot.port
+
+    there_on : (slot : Slot) (b : Bool) → GoesOn (met_there seconds n es slot b).1
+    there_on slot true = idle_on n slot.port (has_ended slot.phase)
+    there_on slot false = met_on slot (gives_way n slot)
+
+    by : (o : Option Slot) (idle : Option (Endpoint × Slot)) → GoesOn (met_by seconds n es o idle).1
+    by (Some slot) idle = there_on slot (is_idle n.time (n.client, slot))
+    by None (Some e) = idle_on n e.1.port (has_ended e.1.phase)
+    by None None = begins_on n n.resets
+
+connects_on : (c : Option ℕ) (n : Noted) (es : Forwards) → GoesOn (connects c n es).1
+connects_on None n es = bind_on n (find_or_bind n.client n.backend n.time es).0
+connects_on (Some seconds) n es = by (slot_of n.client es)
+  where
+    given_up : (b : Bool) (backend : ℕ) → GoesOn (gives_up n b backend)
+    given_up true backend = (refl, tt)
+    given_up false backend = (refl, tt)
+
+    by : (o : Option Slot) → GoesOn (connected_by seconds n es o).1
+    by (Some slot) = given_up (ends seconds n slot) slot.port
+    by None = goes_to_on n (ends seconds n (new_slot n)) n.backend
+
+checks_on : (c : Option ℕ) (n : Noted) (es : Forwards) → GoesOn (checks c n es).1
+checks_on None n es = check_on n (check_connection n.resets n.client n.backend n.time es).0
+checks_on (Some seconds) n es = by (slot_of n.client es)
+  where
+    there_on : (slot : Slot) (b : Bool) → GoesOn (checked_there seconds n es slot b).1
+    there_on slot true = goes_to_on n (ends seconds n slot) n.backend
+    there_on slot false = unconnected_on n
+
+    by : (o : Option Slot) → GoesOn (checked_by seconds n es o).1
+    by (Some slot) = there_on slot (lives_at n.client n.backend n.time (Some slot))
+    by None = unconnected_on n
 
 -- a touch that is not the one of variable 0 goes on, and the one of variable 0 counts a drop
 abbrev pub IsCounted : ℕ → Place → BalancerValue → Noted → BalancerValue × Goes → Type 0
@@ -142,12 +201,12 @@ IsCounted v p x n r =
     ⊎ ((v ≡ 0) × (p ≡ CountsDrop) × (is_over r.1.place ≡ true) × HasReason r.1.place r.1.noted.reason)
 
 pub touch_counted : (s : Settings) (is : AreSettings s) (p : Place) (x : BalancerValue) (n : Noted) (v : ℕ)
-    → next_move s p n ≡ Access v → var_of s p n ≡ v → Fits s v x → IsCounted v p x n (touched p x n)
+    → next_move s p n ≡ Access v → var_of s p n ≡ v → Fits s v x → IsCounted v p x n (touched s.closing p x n)
 touch_counted s is HearsTime x n v e at fits = absurd (cc)
 touch_counted s is FindsConnection (Dropped d) n v e at fits = absurd (omega (arith, at, fits, is.some))
 touch_counted s is FindsConnection (Loaded loads) n v e at fits = absurd (omega (arith, at, fits.0, is.some))
 touch_counted s is FindsConnection (Connected es) n v e at fits =
-    inl (λ q. absurd (omega (arith, fits.0)), refl, find_on n (find_connection n.resets n.client n.time es).0)
+    inl (λ q. absurd (omega (arith, fits.0)), refl, finds_on s.closing n es)
 touch_counted s is LowersIdle (Dropped d) n v e at fits = absurd (omega (arith, at, fits, is.some))
 touch_counted s is LowersIdle (Loaded loads) n v e at fits =
     inl (λ q. absurd (omega (arith, fits.0)), refl, begins_on n n.resets)
@@ -159,16 +218,19 @@ touch_counted s is RaisesLeast (Connected es) n v e at fits = absurd (omega (ari
 touch_counted s is Connects (Dropped d) n v e at fits = absurd (omega (arith, at, fits, is.some))
 touch_counted s is Connects (Loaded loads) n v e at fits = absurd (omega (arith, at, fits.0, is.some))
 touch_counted s is Connects (Connected es) n v e at fits =
-    inl (λ q. absurd (omega (arith, fits.0)), refl, bind_on n (find_or_bind n.client n.backend n.time es).0)
+    inl (λ q. absurd (omega (arith, fits.0)), refl, connects_on s.closing n es)
+touch_counted s is LowersVain (Dropped d) n v e at fits = absurd (omega (arith, at, fits, is.some))
 touch_counted s is LowersSpare (Dropped d) n v e at fits = absurd (omega (arith, at, fits, is.some))
+touch_counted s is LowersVain (Loaded loads) n v e at fits =
+    inl (λ q. absurd (omega (arith, fits.0)), refl, (refl, tt))
 touch_counted s is LowersSpare (Loaded loads) n v e at fits =
     inl (λ q. absurd (omega (arith, fits.0)), refl, (refl, tt))
+touch_counted s is LowersVain (Connected es) n v e at fits = absurd (omega (arith, at, fits.0, fits.1, is.some))
 touch_counted s is LowersSpare (Connected es) n v e at fits = absurd (omega (arith, at, fits.0, fits.1, is.some))
 touch_counted s is ChecksConnection (Dropped d) n v e at fits = absurd (omega (arith, at, fits, is.some))
 touch_counted s is ChecksConnection (Loaded loads) n v e at fits = absurd (omega (arith, at, fits.0, is.some))
 touch_counted s is ChecksConnection (Connected es) n v e at fits =
-    let there = check_connection n.resets n.client n.backend n.time es in
-    inl (λ q. absurd (omega (arith, fits.0)), refl, check_on n there.0)
+    inl (λ q. absurd (omega (arith, fits.0)), refl, checks_on s.closing n es)
 touch_counted s is CountsDrop (Dropped d) n v e at fits = inr (sym at, refl, refl, tt)
 touch_counted s is CountsDrop (Loaded loads) n v e at fits = absurd (omega (arith, at, fits.0, is.some))
 touch_counted s is CountsDrop (Connected es) n v e at fits = absurd (omega (arith, at, fits.0, fits.1, is.some))
@@ -188,6 +250,7 @@ clock_on s FindsConnection a n e = absurd (cc)
 clock_on s LowersIdle a n e = absurd (cc)
 clock_on s RaisesLeast a n e = absurd (cc)
 clock_on s Connects a n e = absurd (cc)
+clock_on s LowersVain a n e = absurd (cc)
 clock_on s LowersSpare a n e = absurd (cc)
 clock_on s ChecksConnection a n e = absurd (cc)
 clock_on s CountsDrop a n e = absurd (cc)
@@ -200,6 +263,7 @@ at_send s FindsConnection n e = absurd (cc)
 at_send s LowersIdle n e = absurd (cc)
 at_send s RaisesLeast n e = absurd (cc)
 at_send s Connects n e = absurd (cc)
+at_send s LowersVain n e = absurd (cc)
 at_send s LowersSpare n e = absurd (cc)
 at_send s ChecksConnection n e = absurd (cc)
 at_send s CountsDrop n e = absurd (cc)
@@ -212,6 +276,7 @@ at_end s FindsConnection n e = absurd (cc)
 at_end s LowersIdle n e = absurd (cc)
 at_end s RaisesLeast n e = absurd (cc)
 at_end s Connects n e = absurd (cc)
+at_end s LowersVain n e = absurd (cc)
 at_end s LowersSpare n e = absurd (cc)
 at_end s ChecksConnection n e = absurd (cc)
 at_end s CountsDrop n e = absurd (cc)
@@ -225,7 +290,7 @@ module _ (s : Settings) (is : AreSettings s) (packets : List Packet) (t taken ta
     (fits : (v : ℕ) → v < 2 + s.shards → Fits s v (value v)) (before after : Option Hand) (had : ℕ) where
   pub touch_of : (h : Hand) (v : ℕ) → comes_to s h (Access v)
       → IsCounted v (place_numbered h.place.at) (value v) (noted_by s h.place)
-      (touched (place_numbered h.place.at) (value v) (noted_by s h.place))
+      (touched s.closing (place_numbered h.place.at) (value v) (noted_by s h.place))
   touch_of h v next =
       let p : Place = place_numbered h.place.at in
       let n : Noted = noted_by s h.place in
@@ -242,16 +307,16 @@ module _ (s : Settings) (is : AreSettings s) (packets : List Packet) (t taken ta
       (placed_on s 0 h (begun s (viewed m.1.bytes m.1.original)) (sym (ap one_if b.0), b.1))
   placed_step (Touches v left) old m =
       let h : Hand = m.0 in
-      let r = touched (place_numbered h.place.at) (value v) (noted_by s h.place) in
+      let r = touched s.closing (place_numbered h.place.at) (value v) (noted_by s h.place) in
       let known : Placed s had (Some h) = subst (Placed s had) m.1 old in
       subst (Placed s (cond (nat_eq v 0) (had + 1) had)) (sym m.4)
       (placed_on s (cond (nat_eq v 0) (had + 1) had) h r.1 (by h (touch_of h v m.2) known.0))
     where
       by : (h : Hand)
           → IsCounted v (place_numbered h.place.at) (value v) (noted_by s h.place)
-          (touched (place_numbered h.place.at) (value v) (noted_by s h.place))
+          (touched s.closing (place_numbered h.place.at) (value v) (noted_by s h.place))
           → had ≡ one_if (is_over (place_numbered h.place.at))
-          → (let r = touched (place_numbered h.place.at) (value v) (noted_by s h.place) in
+          → (let r = touched s.closing (place_numbered h.place.at) (value v) (noted_by s h.place) in
           IsPlaced (cond (nat_eq v 0) (had + 1) had) r.1.place r.1.noted.reason)
       by h (inl k) was = (
         ap (λ b. cond b (had + 1) had) (not_eq v 0 k.0) ∙ was ∙ ap one_if (k.1 ∙ sym k.2.0),

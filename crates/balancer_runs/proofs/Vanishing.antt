@@ -57,17 +57,17 @@ HasNine (Dropped d) = length d.counts ≡ 9
 HasNine (Loaded loads) = ⊥
 HasNine (Connected es) = ⊥
 
-drop_more : (x : BalancerValue) (n : Noted) → HasNine x → IsReason n.reason
-    → HasNine (touched CountsDrop x n).0
-    × (sum (drop_counts (touched CountsDrop x n).0) % 2 ^ 64 ≡ (sum (drop_counts x) + 1) % 2 ^ 64)
-drop_more (Dropped d) n nine is =
+drop_more : (c : Option ℕ) (x : BalancerValue) (n : Noted) → HasNine x → IsReason n.reason
+    → HasNine (touched c CountsDrop x n).0
+    × (sum (drop_counts (touched c CountsDrop x n).0) % 2 ^ 64 ≡ (sum (drop_counts x) + 1) % 2 ^ 64)
+drop_more c (Dropped d) n nine is =
     let same = counted_once n.reason d is in
     let at : n.reason - 1 < length d.counts = omega (arith, is.0, is.1) in (
       ap length same ∙ length-set d.counts (n.reason - 1) ((slice_index d.counts (n.reason - 1) + 1) % 2 ^ 64) ∙ nine,
       ap (λ (c : List ℕ). sum c % 2 ^ 64) same ∙ one_more d.counts (n.reason - 1) at,
     )
-drop_more (Loaded loads) n nine is = absurd nine
-drop_more (Connected es) n nine is = absurd nine
+drop_more c (Loaded loads) n nine is = absurd nine
+drop_more c (Connected es) n nine is = absurd nine
 
 -- what a step changes: packets taken, sent and dropped, and those that wait
 module _ (s : Settings) (is : AreSettings s) (threads t : ℕ) (low : t < threads) (packets : List Packet) (taken : ℕ)
@@ -173,7 +173,7 @@ module _ (s : Settings) (is : AreSettings s) (threads t : ℕ) (low : t < thread
         h = m.0
 
         r : BalancerValue × Goes
-        r = touched (place_numbered h.place.at) (value v) (noted_by s h.place)
+        r = touched s.closing (place_numbered h.place.at) (value v) (noted_by s h.place)
 
         by : IsCounted v (place_numbered h.place.at) (value v) (noted_by s h.place) r → Kept (Touches v left)
         by (inl k) =
@@ -195,10 +195,10 @@ module _ (s : Settings) (is : AreSettings s) (threads t : ℕ) (low : t < thread
             subst (Placed s had) m.1 placed in
             let reason : IsReason (noted_by s h.place).reason =
             (subst (λ (p : Place). IsPlaced had p (noted_by s h.place).reason) at known).1 in
-            let more = drop_more (value 0) (noted_by s h.place) nine reason in
-            let same : (touched CountsDrop (value 0) (noted_by s h.place)).0 ≡ left =
-            sym (ap (λ (u : ℕ). (touched CountsDrop (value u) (noted_by s h.place)).0) k.0)
-            ∙ sym (ap (λ (p : Place). (touched p (value v) (noted_by s h.place)).0) at) ∙ sym m.3 in
+            let more = drop_more s.closing (value 0) (noted_by s h.place) nine reason in
+            let same : (touched s.closing CountsDrop (value 0) (noted_by s h.place)).0 ≡ left =
+            sym (ap (λ (u : ℕ). (touched s.closing CountsDrop (value u) (noted_by s h.place)).0) k.0)
+            ∙ sym (ap (λ (p : Place). (touched s.closing p (value v) (noted_by s h.place)).0) at) ∙ sym m.3 in
             let last = subst (λ (y : BalancerValue).
             HasNine y × (sum (drop_counts y) % 2 ^ 64 ≡ (sum (drop_counts (value 0)) + 1) % 2 ^ 64)) same more in
             rw on (last.0, dropped_kept left old was now last.1)

@@ -1,11 +1,10 @@
 -- An answer goes to a client whose connection to its backend is not idle.
-use Rattle.std.specs.Prelude.{◌≡◌, ◌≢◌, ℕ, ◌+◌, ◌-◌, ◌<◌, false, List, ◌∷◌, Some, Ok, slice_get}
+use Rattle.std.specs.Prelude.{◌≡◌, ℕ, ◌-◌, false, List, ◌∷◌, Some, Ok, slice_get}
 use Rattle.plain_text.specs.declared.packet.Packet.{Packet}
 use Rattle.packet_headers.specs.declared.flow.Flow.{Flow}
 use Rattle.packet_headers.specs.View.{viewed}
 use Rattle.plain_machine.specs.declared.emission.Emission.{Emission}
 use Rattle.plain_machine.specs.History.{Emitted, Step, IsHistory}
-use Rattle.nat_tables.specs.declared.entries.Endpoint.{Endpoint}
 use Rattle.nat_tables.specs.declared.slot.Slot.{Slot}
 use Rattle.nat_tables.specs.Forwards.{Forwards, slot_of}
 use Rattle.flow_boxes.specs.Flows.{HaveBytes, dest_of}
@@ -13,12 +12,7 @@ use Rattle.balancer_box.specs.declared.value.BalancerValue.{BalancerValue}
 use Rattle.balancer_box.specs.Balancer.{Settings, is_virtual, backend_at, balancer_meaning}
 use Rattle.balancer_box.specs.Lawful.{AreSettings}
 use Rattle.balancer_box.specs.Emissions.{Trail, trail_of}
-
--- a connection is not idle yet at this time: less than 7,440 s after its last use with TCP (RFC 5382, REQ-5), or 300 s
--- with UDP (RFC 4787, REQ-5), in microseconds
-abbrev pub IsBusyAt : ℕ → Endpoint → Slot → Type 0
-IsBusyAt now client slot =
-    (client.protocol ≡ 6 → now < slot.last + 7440000000) × (client.protocol ≢ 6 → now < slot.last + 300000000)
+use Rattle.balancer_runs.specs.Idle.{IsBusyAt}
 
 -- the client's connection to the backend, as the packet's own moves met it, and at the time that it was told
 abbrev pub MetBusy : Settings → Flow → Trail → Type 0

@@ -19,7 +19,8 @@ use Rattle.balancer_box.specs.Balancer.{Settings, is_virtual, backend_at, no_con
 use Rattle.balancer_box.specs.Lawful.{AreSettings}
 use Rattle.balancer_box.specs.Emissions.{Trail, trail_of}
 use Rattle.balancer_runs.specs.Packets.{drop_counts}
-use Rattle.balancer_runs.specs.Staying.{IsIdleAt, HasReset}
+use Rattle.balancer_runs.specs.Idle.{IsIdleAt}
+use Rattle.balancer_runs.specs.Staying.{HasReset}
 
 -- the frame is no flow, by one of six tests
 abbrev pub IsNoFlow : Packet → ℕ → Type 0

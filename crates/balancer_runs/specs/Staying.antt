@@ -1,5 +1,6 @@
--- A connection stays with its backend until it is idle or a packet resets it.
-use Rattle.std.specs.Prelude.{◌≡◌, ◌≢◌, ℕ, ◌+◌, ◌-◌, ◌<◌, ◌≤◌, ◌⊎◌, true, false, List, ◌∷◌, Option, Some, None, Ok}
+-- A connection stays with its backend until it is idle, or a packet resets it; or, where it is followed, until it has
+-- ended and its client opens another.
+use Rattle.std.specs.Prelude.{◌≡◌, ◌≢◌, ℕ, ◌+◌, ◌<◌, ◌≤◌, ◌⊎◌, true, false, List, ◌∷◌, Option, Some, None, Ok}
 use Rattle.std.specs.Prelude.{bit_and}
 use Rattle.plain_text.specs.declared.packet.Packet.{Packet}
 use Rattle.packet_headers.specs.declared.flow.Flow.{Flow}
@@ -8,6 +9,7 @@ use Rattle.plain_machine.specs.Machine.{Hand}
 use Rattle.plain_machine.specs.History.{Step, thread_after, value_after, IsHistory}
 use Rattle.nat_tables.specs.declared.entries.Endpoint.{Endpoint}
 use Rattle.nat_tables.specs.declared.slot.Slot.{Slot}
+use Rattle.nat_tables.specs.declared.phase.Phase.TheVariants.{Closing}
 use Rattle.nat_tables.specs.Forwards.{slot_of}
 use Rattle.flow_boxes.specs.Flows.{HaveBytes, source_of, dest_of}
 use Rattle.balancer_box.specs.declared.value.BalancerValue.{BalancerValue}
@@ -15,13 +17,7 @@ use Rattle.balancer_box.specs.Balancer.{Settings, is_virtual, backend_at, balanc
 use Rattle.balancer_box.specs.Lawful.{AreSettings}
 use Rattle.balancer_box.specs.Entries.{connections_in}
 use Rattle.balancer_box.specs.Emissions.{trail_of}
-
--- a connection is idle at this time: 7,440 s after its last use with TCP (RFC 5382, REQ-5), and 300 s with UDP (RFC
--- 4787, REQ-5), in microseconds
-abbrev pub IsIdleAt : ℕ → Endpoint → Slot → Type 0
-IsIdleAt now client slot =
-    (slot.last ≤ now) × (client.protocol ≡ 6 → 7440000000 ≤ now - slot.last)
-    × (client.protocol ≢ 6 → 300000000 ≤ now - slot.last)
+use Rattle.balancer_runs.specs.Idle.{IsIdleAt}
 
 abbrev pub WasIdle : Option ℕ → Endpoint → Slot → Type 0
 WasIdle None client slot = ⊥
@@ -40,14 +36,29 @@ Resets s client backend p =
     ⊎ ((is_virtual s flow.dest flow.dest_port ≡ false)
     × (backend_at s.backends flow.source flow.source_port ≡ Some backend) × (client ≡ dest_of flow)))
 
+-- where connections are not followed
 abbrev pub WasReset : Settings → Option Hand → Endpoint → Slot → Type 0
 WasReset s None client slot = ⊥
-WasReset s (Some h) client slot = Resets s client slot.port h.packet
+WasReset s (Some h) client slot = (s.closing ≡ None) × Resets s client slot.port h.packet
+
+-- the control bit SYN, and none of ACK, FIN and RST
+abbrev pub HasOpening : Flow → Type 0
+HasOpening flow =
+    (bit_and flow.flags 2 ≢ 0) × (bit_and flow.flags 16 ≡ 0) × (bit_and flow.flags 1 ≡ 0) × (bit_and flow.flags 4 ≡ 0)
+
+-- the connection had ended, which only one of TCP can, and its client opens another
+abbrev pub GaveWay : Settings → Option Hand → Endpoint → Slot → Type 0
+GaveWay s None client slot = ⊥
+GaveWay s (Some h) client slot =
+    (seconds : ℕ) × (slot.phase ≡ Closing seconds) × (client.protocol ≡ 6)
+    × (flow : Flow) × (viewed h.packet.bytes h.packet.original ≡ Ok flow) × HasOpening flow
+    × (is_virtual s flow.dest flow.dest_port ≡ true) × (client ≡ source_of flow)
 
 -- a connection after a step: it has its backend, and was used at its old time or at the time that the packet was told;
--- or it is gone, as it was idle or was reset
+-- or it is gone, as it was idle, was reset, or gave way
 abbrev pub Stays : Settings → Option ℕ → Option Hand → Endpoint → Slot → Option Slot → Type 0
-Stays s clock hand client slot None = WasIdle clock client slot ⊎ WasReset s hand client slot
+Stays s clock hand client slot None =
+    WasIdle clock client slot ⊎ (WasReset s hand client slot ⊎ GaveWay s hand client slot)
 Stays s clock hand client slot (Some new) =
     (new.port ≡ slot.port)
     × ((new.last ≡ slot.last) ⊎ ((slot.last ≤ new.last) × (clock ≡ Some new.last)))

@@ -3,6 +3,8 @@ ghost use Rattle.balancer_runs.specs.Packets.{NoPacketVanishes, NoPacketVanishes
 ghost use Rattle.balancer_runs.specs.Packets.{EachHasOneOutcome};
 ghost use Rattle.balancer_runs.specs.Staying.{ConnectionsStay};
 ghost use Rattle.balancer_runs.specs.Causes.{DropsHaveCauses};
+ghost use Rattle.balancer_runs.specs.Following.{FollowedByTheLine, NoneFollowedWithoutIt};
+ghost use Rattle.balancer_runs.specs.Following.{TouchesAsBefore, BeginsAsBefore, SidesFollow};
 ghost use Rattle.balancer_runs.specs.Choosing.{LeastLoadsAreRaised, NewConnectionsHaveLeastLoad};
 
 /// In each run, whatever its threads, its inputs and the order of its moves: each packet that was taken went out, was
@@ -17,7 +19,8 @@ pub fn no_packet_vanishes()
 
 /// At each step of each run on packets of bytes, a connection that is there stays, with its backend, unless it is idle
 /// at the time that the step's packet was told, 7,440 s after its last use with TCP and 300 s with UDP, or this packet
-/// resets it. Its last use stays, or becomes that time.
+/// resets it. Where connections are followed, no packet resets one; but one that has ended is idle after the box's own
+/// number of seconds, and is gone at once when its client opens another. Its last use stays, or becomes that time.
 pub fn connections_stay_until_idle_or_reset()
     ensures { ConnectionsStay }
 {}
@@ -38,7 +41,21 @@ pub fn new_connections_have_least_load()
 {}
 
 /// In each run on packets of bytes, an answer that goes out is one to a client whose connection to the answer's backend
-/// was used less than 7,440 s before with TCP, and 300 s with UDP, at the time that the answer was told.
+/// was used less than 7,440 s before with TCP, and 300 s with UDP, at the time that the answer was told; or the box's
+/// own number of seconds, where it has ended.
 pub fn answers_come_before_idle()
     ensures { AnswersComeBeforeIdle }
+{}
+
+/// Each connection that notes an end is of TCP, and where it has ended it has the box's number of seconds
+/// (`by_the_line`). Where the box has none, no connection is followed, so each is kept as its protocol says
+/// (`none_without_it`); each touch is as if there were no such number (`touches`), and nothing is noted of what a
+/// packet tells (`begins`). The phase of a connection changes by a packet from its own client or its own backend alone,
+/// and as the control bits of this packet say (`sides`).
+pub fn connections_are_followed_by_the_line()
+    ensures by_the_line { FollowedByTheLine }
+    ensures none_without_it { NoneFollowedWithoutIt }
+    ensures touches { TouchesAsBefore }
+    ensures begins { BeginsAsBefore }
+    ensures sides { SidesFollow }
 {}

@@ -1,10 +1,12 @@
-//! The laws of all runs of the load balancer: where its packets are, how long its connections stay, why it drops
-//! packets, and which backends new connections have. Each is proved, and does nothing: a caller has it by the call.
+//! The laws of all runs of the load balancer: where its packets are, how long its connections stay and how they end,
+//! why it drops packets, and which backends new connections have. Each is proved, and does nothing: a caller has it by
+//! the call.
 #![tactic(auto)]
 
 mod laws;
 
 pub use laws::{
-    answers_come_before_idle, connections_stay_until_idle_or_reset, drops_have_their_causes,
-    new_connections_have_least_load, no_packet_vanishes,
+    answers_come_before_idle, connections_are_followed_by_the_line,
+    connections_stay_until_idle_or_reset, drops_have_their_causes, new_connections_have_least_load,
+    no_packet_vanishes,
 };

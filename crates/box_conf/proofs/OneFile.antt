@@ -13,14 +13,14 @@ use Rattle.plain_text.proofs.Faults.{Rising, counted_rise, not_in_whole, one_of_
 use Rattle.box_conf.specs.declared.kind.BoxConf.{BoxConf}
 use Rattle.box_conf.specs.declared.kind.KindWord.{KindWord}
 use Rattle.box_conf.specs.declared.kind.KindWord.TheVariants as kind
-use Rattle.balancer_box.specs.declared.backends.Backend.{Backend as Named}
+use Rattle.box_conf.specs.declared.names.Named.{Named}
 use Rattle.box_conf.specs.declared.table.BoxLine.TheVariants.{Threads, Seed, Shards, Inside, Outside, Ports, Closing}
-use Rattle.box_conf.specs.declared.table.BoxLine.TheVariants.{Virtual, Backend}
+use Rattle.box_conf.specs.declared.table.BoxLine.TheVariants.{Icmp, Static, Virtual, Backend}
 use Rattle.box_conf.specs.declared.table.BoxLine.{BoxLine}
-use Rattle.box_conf.specs.Backends.{backend_fault, backends_after}
+use Rattle.box_conf.specs.Names.{named_in, names_fault, no_names}
 use Rattle.box_conf.specs.BoxFile.{AreOfKind, IsDescribed, IsBoxFile, Names, NamesNone, LeavesTable, NamesInVain}
 use Rattle.box_conf.specs.BoxFile.{FirstFault, Has as HasValues}
-use Rattle.box_conf.specs.Reading.{box_of, described_box, or_backends, fault_at}
+use Rattle.box_conf.specs.Reading.{box_of, described_box, or_names, fault_at}
 use Rattle.box_conf.specs.Settings.{usual_or_none}
 use Rattle.box_conf.specs.Kinds.{box_row, conf_from, kinds, rows_of}
 use Rattle.box_conf.specs.Table.{again_of, row_of, values_from}
@@ -70,26 +70,28 @@ of_once values others Inside = values Inside
 of_once values others Outside = values Outside
 of_once values others Ports = values Ports
 of_once values others Closing = values Closing
+of_once values others Icmp = values Icmp
+of_once values others Static = others Static
 of_once values others Virtual = values Virtual
 of_once values others Backend = others Backend
 
-abbrev conf_by : KindWord → (BoxLine → List ℕ) → List Named → BoxConf
-conf_by kind values backends = conf_from kind (λ line. values_from (values line)) backends
+abbrev conf_by : KindWord → (BoxLine → List ℕ) → Named → BoxConf
+conf_by kind values names = conf_from kind (λ line. values_from (values line)) names
 
-conf_of_once : (kind : KindWord) (values others : BoxLine → List ℕ) (backends : List Named)
-    → conf_by kind values backends ≡ conf_by kind (of_once values others) backends
-conf_of_once kind.Count values others backends = refl
-conf_of_once kind.Monitor values others backends = refl
-conf_of_once kind.Nat values others backends = refl
-conf_of_once kind.Balancer values others backends = refl
+conf_of_once : (kind : KindWord) (values others : BoxLine → List ℕ) (names : Named)
+    → conf_by kind values names ≡ conf_by kind (of_once values others) names
+conf_of_once kind.Count values others names = refl
+conf_of_once kind.Monitor values others names = refl
+conf_of_once kind.Nat values others names = refl
+conf_of_once kind.Balancer values others names = refl
 
 of_one_kind : (text : List ℕ) (kind : KindWord) (a b : BoxConf) → AreOfKind kind (counted_lines text) a
     → AreOfKind kind (counted_lines text) b → a ≡ b
 of_one_kind text kind a b x y =
     let values : of_once x.values y.values ≡ y.values = λ i line. same line i in
-    let backends : List Named = backends_after [] (counted_lines text) in
-    x.says ∙ conf_of_once kind x.values y.values backends
-    ∙ ap (λ (values : BoxLine → List ℕ). conf_by kind values backends) values ∙ sym y.says
+    let names : Named = named_in (counted_lines text) in
+    x.says ∙ conf_of_once kind x.values y.values names
+    ∙ ap (λ (values : BoxLine → List ℕ). conf_by kind values names) values ∙ sym y.says
   where
     one : (line : BoxLine) → again_of line ≡ false → x.values line ≡ y.values line
     one line once = one_list text kind x.rows line (x.values line) (y.values line) once (x.set line) (y.set line)
@@ -102,6 +104,8 @@ of_one_kind text kind a b x y =
     same Outside = one Outside refl
     same Ports = one Ports refl
     same Closing = one Closing refl
+    same Icmp = one Icmp refl
+    same Static = refl
     same Virtual = one Virtual refl
     same Backend = refl
 
@@ -148,7 +152,7 @@ one_leaving text x y a b (inr (inr f)) (inr (inr g)) =
     subst (λ (k : KindWord). FirstOfFile (rows_of k) (counted_lines text) (length (lines_of text)) x a) kind f.2 in
     one_of_file (rows_of g.0) (counted_lines text) 1 (length (lines_of text)) (rising text) x y a b first g.2
 
--- Backends come in beside the table
+-- Names come in beside the table
 
 one_in_vain : (text : List ℕ) (x y : ℕ) (a b : LineCause) → NamesInVain text x a → NamesInVain text y b
     → (x ≡ y) × (a ≡ b)
@@ -163,8 +167,8 @@ one_box text a b x y = one_described text a b x.0 y.0
 pub box_or_fault : (text : List ℕ) (conf : BoxConf) (number : ℕ) (cause : LineCause) → IsBoxFile text conf
     → FirstFault text number cause → ⊥
 box_or_fault text conf number cause x (inl of_table) = described_or_leaves text conf number cause x.0 of_table.0
-box_or_fault text conf number cause x (inr of_backends) =
-    let bad : None ≡ Some (fault_at number cause) = sym x.1 ∙ of_backends.0 in absurd (cc)
+box_or_fault text conf number cause x (inr of_names) =
+    let bad : None ≡ Some (fault_at number cause) = sym x.1 ∙ of_names.0 in absurd (cc)
 
 pub one_fault : (text : List ℕ) (x y : ℕ) (a b : LineCause) → FirstFault text x a → FirstFault text y b
     → (x ≡ y) × (a ≡ b)
@@ -180,10 +184,11 @@ Answers text (Ok conf) = IsBoxFile text conf
 Answers text (Err fault) = FirstFault text fault.line fault.cause
 
 answers : (text : List ℕ) → Answers text (box_of text)
-answers text = by (described_box text) (backend_fault [] (counted_lines text)) refl (reads_text text)
+answers text = by (described_box text) (names_fault no_names (counted_lines text)) refl (reads_text text)
   where
-    by_both : (a b : LineFault) (t : Bool) → nat_lt b.line a.line ≡ t → backend_fault [] (counted_lines text) ≡ Some b
-        → LeavesTable text a.line a.cause → Answers text (Err (if t then b else a))
+    by_both : (a b : LineFault) (t : Bool) → nat_lt b.line a.line ≡ t
+        → names_fault no_names (counted_lines text) ≡ Some b → LeavesTable text a.line a.cause
+        → Answers text (Err (if t then b else a))
     by_both a b true q e f =
         inr (
           e,
@@ -199,8 +204,8 @@ answers text = by (described_box text) (backend_fault [] (counted_lines text)) r
               let low : a.line ≤ b.line = grind (arith, nat_tests) in omega (arith, same.0),
         )
 
-    by : (r : Result BoxConf LineFault) (o : Option LineFault) → backend_fault [] (counted_lines text) ≡ o
-        → Reads (counted_lines text) (length (lines_of text)) r → Answers text (or_backends r o)
+    by : (r : Result BoxConf LineFault) (o : Option LineFault) → names_fault no_names (counted_lines text) ≡ o
+        → Reads (counted_lines text) (length (lines_of text)) r → Answers text (or_names r o)
     by (Ok conf) None e x = (x, e)
     by (Ok conf) (Some fault) e x = inr (e, λ other why f. absurd (described_or_leaves text conf other why x f))
     by (Err fault) None e x =

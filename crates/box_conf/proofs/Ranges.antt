@@ -1,20 +1,18 @@
 -- What a line sets is in the range of the line.
 use Rattle.std.proofs.Common.{◌≡◌, ◌≢◌, ℕ, ◌-◌, ◌^◌, ◌<◌, ◌≤◌, ◌⊎◌, inl, inr, arith, List, [], ◌∷◌, refl, sym, subst}
-use Rattle.std.proofs.Common.{Option}
-use Rattle.std.proofs.Common.{Some, None, true, false, Bool, cond, Ok, Err}
-use Rattle.std.specs.Prelude.{Result, IfOk, IfSome, ◌&&◌, nat_le, is_none, is_some}
+use Rattle.std.proofs.Common.{Option, Some, true, false, Bool, Ok, Err}
+use Rattle.std.specs.Prelude.{Result, IfOk, IfSome, ◌&&◌, nat_le}
 use Rattle.std.proofs.lemmas.Bool.Decides.{nat_tests}
 use Rattle.plain_text.specs.declared.fault.LineCause.{LineCause}
 use Rattle.plain_text.specs.Grammar.{Place, Number, Address, is_within, PlacesSay, LineSays}
 use Rattle.plain_text.proofs.Addresses.{address_small}
 use Rattle.box_conf.specs.declared.kind.KindWord.{KindWord}
-use Rattle.box_conf.specs.declared.kind.KindWord.TheVariants as kind
 use Rattle.box_conf.specs.declared.settings.Settings.{Settings}
 use Rattle.box_conf.specs.declared.table.BoxLine.{BoxLine}
 use Rattle.box_conf.specs.declared.table.BoxLine.TheVariants.{Threads, Seed, Shards, Inside, Outside, Ports, Closing}
-use Rattle.box_conf.specs.declared.table.BoxLine.TheVariants.{Virtual, Backend}
+use Rattle.box_conf.specs.declared.table.BoxLine.TheVariants.{Icmp, Static, Virtual, Backend}
 use Rattle.box_conf.specs.declared.table.Values.{Values}
-use Rattle.box_conf.specs.Kinds.{missing_line, rows_of}
+use Rattle.box_conf.specs.Kinds.{rows_of}
 use Rattle.box_conf.specs.Reading.{set_line}
 use Rattle.box_conf.specs.Settings.{setting, with_setting, line_read, AreInRange, IsWithin}
 use Rattle.box_conf.specs.Table.{row_of, values_from}
@@ -68,6 +66,20 @@ end_within : (words : List (List ℕ)) (values : List ℕ) → PlacesSay (Addres
 end_within words values s =
     (address_within (Number 0 65535 ∷ []) words values s, (length_within 0 65535 words values s).1)
 
+-- a protocol, an address and two ports
+static_within : (words : List (List ℕ)) (values : List ℕ) → PlacesSay (row_of Static).places words values
+    → IsWithin Static (values_from values)
+static_within [] values s = absurd s
+static_within (word ∷ words) [] s = absurd s
+static_within (a ∷ []) (n ∷ values) s = absurd s.2
+static_within (a ∷ b ∷ words) (n ∷ []) s = absurd s.2
+static_within (a ∷ b ∷ []) (n ∷ m ∷ values) s = absurd s.2.2
+static_within (a ∷ b ∷ c ∷ words) (n ∷ m ∷ []) s = absurd s.2.2
+static_within (a ∷ b ∷ c ∷ []) (n ∷ m ∷ k ∷ values) s = absurd s.2.2.2
+static_within (a ∷ b ∷ c ∷ d ∷ words) (n ∷ m ∷ k ∷ []) s = absurd s.2.2.2
+static_within (a ∷ b ∷ c ∷ d ∷ words) (n ∷ m ∷ k ∷ l ∷ values) s =
+    (address_small b m s.2.0, (within 1 65535 k s.2.2.1).1, (within 1 65535 l s.2.2.2.1).1)
+
 says_within : (line : BoxLine) (words : List (List ℕ)) (values : List ℕ) → PlacesSay (row_of line).places words values
     → (row_of line).fits values ≡ true → IsWithin line (values_from values)
 says_within Threads words values s f = one_within 1 16 words values s
@@ -82,6 +94,8 @@ says_within Ports words values s f =
     (ends.0, in_order (values_from values).first (values_from values).second f, ends.1)
 says_within Closing words values s f =
     let ends = one_within 1 (2 ^ 32 - 1) words values s in omega (arith, ends.1)
+says_within Icmp words values s f = tt
+says_within Static words values s f = static_within words values s
 says_within Virtual words values s f = end_within words values s
 says_within Backend words values s f = end_within words values s
 
@@ -125,15 +139,3 @@ stays_in_range kind s words r are e =
 
         in_range : AreInRange (with_setting s says.0 set)
         in_range other = here other (set_or s says.0 other set)
-
--- a NAT has its two addresses
-pub nat_stands : (s : Settings) → missing_line kind.Nat s ≡ None
-    → (is_some (setting s Inside) ≡ true) × (is_some (setting s Outside) ≡ true)
-nat_stands s e = by s.inside s.outside e
-  where
-    by : (inside outside : Option Values)
-        → cond (is_none inside) (Some Inside) (cond (is_none outside) (Some Outside) None) ≡ None
-        → (is_some inside ≡ true) × (is_some outside ≡ true)
-    by (Some a) (Some b) e = (refl, refl)
-    by (Some a) None e = absurd (cc)
-    by None outside e = absurd (cc)

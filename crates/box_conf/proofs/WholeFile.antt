@@ -18,9 +18,9 @@ use Rattle.box_conf.specs.declared.settings.Settings.{Settings}
 use Rattle.box_conf.specs.declared.kind.KindWord.{KindWord}
 use Rattle.box_conf.specs.declared.table.BoxLine.{BoxLine}
 use Rattle.box_conf.specs.declared.table.BoxLine.TheVariants.{Threads, Seed, Shards, Inside, Outside, Ports, Closing}
-use Rattle.box_conf.specs.declared.table.BoxLine.TheVariants.{Virtual, Backend}
+use Rattle.box_conf.specs.declared.table.BoxLine.TheVariants.{Icmp, Static, Virtual, Backend}
 use Rattle.box_conf.specs.declared.table.Values.{Values}
-use Rattle.box_conf.specs.Backends.{backends_after}
+use Rattle.box_conf.specs.Names.{named_in}
 use Rattle.box_conf.specs.BoxFile.{AreOfKind, Names, NamesNone, Has as HasValues}
 use Rattle.box_conf.specs.Reading.{and_kind, and_lines, described_box, box_of_lines, conf_of, whole_box, first_line}
 use Rattle.box_conf.specs.Reading.{no_settings, set_line, set_lines}
@@ -36,7 +36,7 @@ Line = ℕ × List ℕ
 
 abbrev line_in : List ℕ → Option BoxLine
 line_in word = find (λ line. bytes_eq word (word_of line))
-    (Threads ∷ Seed ∷ Shards ∷ Inside ∷ Outside ∷ Ports ∷ Closing ∷ Virtual ∷ Backend ∷ [])
+    (Threads ∷ Seed ∷ Shards ∷ Inside ∷ Outside ∷ Ports ∷ Closing ∷ Icmp ∷ Static ∷ Virtual ∷ Backend ∷ [])
 
 line_back : (line : BoxLine) → line_in (word_of line) ≡ Some line
 line_back Threads = refl
@@ -46,6 +46,8 @@ line_back Inside = refl
 line_back Outside = refl
 line_back Ports = refl
 line_back Closing = refl
+line_back Icmp = refl
+line_back Static = refl
 line_back Virtual = refl
 line_back Backend = refl
 
@@ -69,6 +71,8 @@ set_or s Inside Inside v = inr (refl, refl)
 set_or s Outside Outside v = inr (refl, refl)
 set_or s Ports Ports v = inr (refl, refl)
 set_or s Closing Closing v = inr (refl, refl)
+set_or s Icmp Icmp v = inr (refl, refl)
+set_or s Static Static v = inr (refl, refl)
 set_or s Virtual Virtual v = inr (refl, refl)
 set_or s Backend Backend v = inr (refl, refl)
 set_or s Threads other v = inl ((λ e. cc), refl)
@@ -78,6 +82,8 @@ set_or s Inside other v = inl ((λ e. cc), refl)
 set_or s Outside other v = inl ((λ e. cc), refl)
 set_or s Ports other v = inl ((λ e. cc), refl)
 set_or s Closing other v = inl ((λ e. cc), refl)
+set_or s Icmp other v = inl ((λ e. cc), refl)
+set_or s Static other v = inl ((λ e. cc), refl)
 set_or s Virtual other v = inl ((λ e. cc), refl)
 set_or s Backend other v = inl ((λ e. cc), refl)
 
@@ -330,6 +336,8 @@ begins kind first rest n index rising names = record {
     unset Outside = none_of Outside
     unset Ports = none_of Ports
     unset Closing = none_of Closing
+    unset Icmp = none_of Icmp
+    unset Static = none_of Static
     unset Virtual = none_of Virtual
     unset Backend = none_of Backend
 
@@ -447,7 +455,7 @@ reads_lines (first ∷ rest) count n rising = by_first (first_line (words_of fir
 
     by_missing : (kind : KindWord) (s : Settings) (o : Option BoxLine) → Names all kind → Stands kind s all
         → AreLines (rows_of kind) all → missing_line kind s ≡ o
-        → Reads all count (whole_box count kind (backends_after [] all) s o)
+        → Reads all count (whole_box count kind (named_in all) s o)
     by_missing kind s None names stands rows none =
         let of_line : (line : BoxLine)
         → (values : List ℕ) × HasValues kind all line values × (values_from values ≡ values_set s line) =
@@ -460,19 +468,19 @@ reads_lines (first ∷ rest) count n rising = by_first (first_line (words_of fir
             whole = all_stand kind all s stands none;
             values = λ line. (of_line line).0;
             set = λ line. (of_line line).1;
-            says = ap (λ (values : BoxLine → Values). conf_from kind values (backends_after [] all)) (sym same);
+            says = ap (λ (values : BoxLine → Values). conf_from kind values (named_in all)) (sym same);
           },
         )
     by_missing kind s (Some line) names stands rows e =
         inr (inr (kind, names, inr (rows, one_lacks kind all s line stands e, refl, refl)))
 
     by_lines : (kind : KindWord) (r : Result Settings LineFault) → Names all kind → Comes kind all r
-        → Reads all count (conf_of count kind (backends_after [] all) r)
+        → Reads all count (conf_of count kind (named_in all) r)
     by_lines kind (Ok s) names comes = by_missing kind s (missing_line kind s) names comes.0 comes.1 refl
     by_lines kind (Err fault) names comes = inr (inr (kind, names, inl comes))
 
     by_first : (r : Result KindWord LineCause) → FirstSays (words_of first.1) r
-        → Reads all count (and_kind count first.0 (backends_after [] all) r rest)
+        → Reads all count (and_kind count first.0 (named_in all) r rest)
     by_first (Ok kind) names = by_lines kind (set_lines kind no_settings rest) names
         (along kind all rest (first ∷ []) no_settings (first.0 + 1) (begins kind first rest n names.0 rising names.1))
     by_first (Err cause) fault = inr (inl (refl, fault))

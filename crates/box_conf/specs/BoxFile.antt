@@ -6,7 +6,7 @@ use Rattle.plain_text.specs.declared.fault.LineCause.{LineCause}
 use Rattle.plain_text.specs.declared.fault.LineCause.TheVariants.{MissingLine}
 use Rattle.plain_text.specs.Grammar.{AllStand, AreLines, FirstOfFile, LineSays, Sets, line_fault}
 use Rattle.plain_text.specs.Lines.{counted_lines, words_of}
-use Rattle.box_conf.specs.Backends.{backends_after, backend_fault}
+use Rattle.box_conf.specs.Names.{no_names, named_in, names_fault}
 use Rattle.box_conf.specs.declared.kind.BoxConf.{BoxConf}
 use Rattle.box_conf.specs.declared.kind.KindWord.{KindWord}
 use Rattle.box_conf.specs.declared.table.BoxLine.{BoxLine}
@@ -31,7 +31,7 @@ pub record AreOfKind (kind : KindWord) (lines : List (ℕ × List ℕ)) (conf : 
   pub whole : AllStand (rows_of kind) lines
   pub values : BoxLine → List ℕ
   pub set : (line : BoxLine) → Has kind lines line (values line)
-  pub says : conf ≡ conf_from kind (λ line. values_from (values line)) (backends_after [] lines)
+  pub says : conf ≡ conf_from kind (λ line. values_from (values line)) (named_in lines)
 
 -- by the table of its kind, a text is the file of this box
 abbrev pub IsDescribed : List ℕ → BoxConf → Type 0
@@ -39,7 +39,7 @@ IsDescribed text conf = (kind : KindWord) × AreOfKind kind (counted_lines text)
 
 -- a text is the file of this box
 abbrev pub IsBoxFile : List ℕ → BoxConf → Type 0
-IsBoxFile text conf = IsDescribed text conf × (backend_fault [] (counted_lines text) ≡ None)
+IsBoxFile text conf = IsDescribed text conf × (names_fault no_names (counted_lines text) ≡ None)
 
 -- the first line has this number and does not name a kind, for this cause
 abbrev pub NamesNone : List (ℕ × List ℕ) → ℕ → LineCause → Type 0
@@ -57,18 +57,19 @@ LeavesTable text number cause =
     × Names (counted_lines text) kind
     × FirstOfFile (rows_of kind) (counted_lines text) (length (lines text)) number cause
 
--- a line is the first that names a backend too many, or one again
+-- a line is the first that names one too many, or one again
 abbrev pub NamesInVain : List ℕ → ℕ → LineCause → Type 0
-NamesInVain text number cause = backend_fault [] (counted_lines text) ≡ Some (record { line = number; cause = cause })
+NamesInVain text number cause =
+    names_fault no_names (counted_lines text) ≡ Some (record { line = number; cause = cause })
 
--- the first fault of a text is that of its tables or of its backends, whichever line comes first
+-- the first fault of a text is that of its table or of its names, whichever line comes first
 abbrev pub FirstFault : List ℕ → ℕ → LineCause → Type 0
-FirstFault text number cause = OfTable ⊎ OfBackends
+FirstFault text number cause = OfTable ⊎ OfNames
   where
     OfTable : Type 0
     OfTable =
         LeavesTable text number cause × ((other : ℕ) (why : LineCause) → NamesInVain text other why → number ≤ other)
 
-    OfBackends : Type 0
-    OfBackends =
+    OfNames : Type 0
+    OfNames =
         NamesInVain text number cause × ((other : ℕ) (why : LineCause) → LeavesTable text other why → number < other)

@@ -11,9 +11,11 @@ use Rattle.box_program.specs.Count.{count_meaning}
 use Rattle.monitor_box.specs.declared.value.MonitorValue.{MonitorValue}
 use Rattle.monitor_box.specs.Boxes as monitor
 use Rattle.balancer_box.specs.declared.backends.Backend.{Backend}
+use Rattle.balancer_box.specs.declared.balancer.BalancerBox.{BalancerBox}
 use Rattle.balancer_box.specs.declared.value.BalancerValue.{BalancerValue}
 use Rattle.balancer_box.specs.Boxes as balancer
 use Rattle.nat_box.specs.declared.nat.NatBox.{NatBox}
+use Rattle.nat_box.specs.declared.nat.StaticPort.{StaticPort}
 use Rattle.nat_box.specs.declared.value.NatValue.{NatValue}
 use Rattle.nat_box.specs.Boxes as nat
 use Rattle.box_conf.specs.declared.kind.BoxConf.{BoxConf}
@@ -21,11 +23,12 @@ use Rattle.box_conf.specs.declared.kind.BoxKind.{BoxKind}
 use Rattle.box_conf.specs.declared.kind.BoxKind.TheVariants.{Count, Monitor, Nat, Balancer}
 use Rattle.box_conf.specs.declared.kind.KindWord.{KindWord}
 use Rattle.box_conf.specs.declared.kind.KindWord.TheVariants as kind
+use Rattle.box_conf.specs.declared.names.Named.{Named}
 use Rattle.box_conf.specs.declared.settings.Settings.{Settings}
 use Rattle.box_conf.specs.declared.table.BoxLine.{BoxLine}
 use Rattle.box_conf.specs.declared.table.BoxLine.TheVariants as line
 use Rattle.box_conf.specs.declared.table.BoxLine.TheVariants.{Threads, Seed, Shards, Inside, Outside, Ports, Closing}
-use Rattle.box_conf.specs.declared.table.BoxLine.TheVariants.{Virtual}
+use Rattle.box_conf.specs.declared.table.BoxLine.TheVariants.{Icmp, Static, Virtual}
 use Rattle.box_conf.specs.declared.table.Values.{Values}
 use Rattle.box_conf.specs.Settings.{setting}
 use Rattle.box_conf.specs.Table.{row_of, usual_of, word_of}
@@ -44,26 +47,33 @@ kind_word kind.Balancer = codes "balancer"
 abbrev pub lines_of : KindWord → List BoxLine
 lines_of kind.Count = Threads ∷ Seed ∷ []
 lines_of kind.Monitor = Threads ∷ Seed ∷ Shards ∷ []
-lines_of kind.Nat = Threads ∷ Seed ∷ Shards ∷ Inside ∷ Outside ∷ Ports ∷ Closing ∷ []
-lines_of kind.Balancer = Threads ∷ Seed ∷ Shards ∷ Virtual ∷ line.Backend ∷ []
+lines_of kind.Nat = Threads ∷ Seed ∷ Shards ∷ Inside ∷ Outside ∷ Ports ∷ Closing ∷ Icmp ∷ Static ∷ []
+lines_of kind.Balancer = Threads ∷ Seed ∷ Shards ∷ Virtual ∷ line.Backend ∷ Closing ∷ []
 
 -- the seconds of the line `closing`; none where it is not there
 abbrev pub seconds_of : ℕ → Option ℕ
 seconds_of number = if number == 0 then None else Some number
 
-abbrev pub nat_from : (BoxLine → Values) → NatBox
-nat_from values =
-    nat.with_closing (seconds_of (values Closing).first)
+-- the first word behind `icmp` lets errors through
+abbrev pub nat_from : (BoxLine → Values) → List StaticPort → NatBox
+nat_from values statics =
+    nat.with_errors ((values Icmp).first == 0)
+    (nat.with_statics statics
+    (nat.with_closing (seconds_of (values Closing).first)
     (nat.box_with (values Shards).first (values Inside).first (values Inside).second (values Outside).first
-    (values Ports).first (values Ports).second)
+    (values Ports).first (values Ports).second)))
 
--- the box, where the lines have these values and name these backends
-abbrev pub box_from : KindWord → (BoxLine → Values) → List Backend → BoxKind
-box_from kind.Count values backends = Count (record {})
-box_from kind.Monitor values backends = Monitor (monitor.box_with (values Shards).first)
-box_from kind.Nat values backends = Nat (nat_from values)
-box_from kind.Balancer values backends =
-    Balancer (balancer.box_with (values Shards).first (values Virtual).first (values Virtual).second backends)
+abbrev pub balancer_from : (BoxLine → Values) → List Backend → BalancerBox
+balancer_from values backends =
+    balancer.with_closing (seconds_of (values Closing).first)
+    (balancer.box_with (values Shards).first (values Virtual).first (values Virtual).second backends)
+
+-- the box, where the lines have these values and these names
+abbrev pub box_from : KindWord → (BoxLine → Values) → Named → BoxKind
+box_from kind.Count values names = Count (record {})
+box_from kind.Monitor values names = Monitor (monitor.box_with (values Shards).first)
+box_from kind.Nat values names = Nat (nat_from values names.statics)
+box_from kind.Balancer values names = Balancer (balancer_from values names.backends)
 
 -- the meaning of a program, with the kind of value that its variables have
 pub record AnyMeaning : Type 1 where
@@ -102,9 +112,9 @@ rows_of kind = box_row ∷ map row_of (lines_of kind)
 abbrev pub missing_line : KindWord → Settings → Option BoxLine
 missing_line kind settings = find (λ line. is_none (usual_of line) && is_none (setting settings line)) (lines_of kind)
 
-abbrev pub conf_from : KindWord → (BoxLine → Values) → List Backend → BoxConf
-conf_from kind values backends =
-    record { threads = (values Threads).first; seed = (values Seed).first; kind = box_from kind values backends }
+abbrev pub conf_from : KindWord → (BoxLine → Values) → Named → BoxConf
+conf_from kind values names =
+    record { threads = (values Threads).first; seed = (values Seed).first; kind = box_from kind values names }
 
 -- a kind whose file names backends
 abbrev pub IsBalancer : KindWord → Type 0

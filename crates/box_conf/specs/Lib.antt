@@ -1,6 +1,6 @@
-pub mod Backends
 pub mod BoxFile
 pub mod Kinds
+pub mod Names
 pub mod Reading
 pub mod Settings
 pub mod Table

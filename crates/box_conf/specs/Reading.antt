@@ -9,11 +9,11 @@ use Rattle.plain_text.specs.declared.fault.LineCause.TheVariants.{UnknownWord, M
 use Rattle.plain_text.specs.declared.fault.LineFault.{LineFault}
 use Rattle.plain_text.specs.Fields.{fields_of}
 use Rattle.plain_text.specs.Lines.{words_of, counted_lines}
-use Rattle.balancer_box.specs.declared.backends.Backend.{Backend}
-use Rattle.box_conf.specs.Backends.{backends_after, backend_fault}
+use Rattle.box_conf.specs.Names.{no_names, named_in, names_fault}
 use Rattle.box_conf.specs.declared.kind.BoxConf.{BoxConf}
-use Rattle.box_conf.specs.declared.settings.Settings.{Settings}
 use Rattle.box_conf.specs.declared.kind.KindWord.{KindWord}
+use Rattle.box_conf.specs.declared.names.Named.{Named}
+use Rattle.box_conf.specs.declared.settings.Settings.{Settings}
 use Rattle.box_conf.specs.declared.table.BoxLine.{BoxLine}
 use Rattle.box_conf.specs.Settings.{has_stood, values_set, line_read, set_values}
 use Rattle.box_conf.specs.Kinds.{kind_named, line_named, missing_line, conf_from}
@@ -71,42 +71,44 @@ no_settings = record {
   outside = None;
   ports = None;
   closing = None;
+  icmp = None;
+  static_port = None;
   virtual_end = None;
   backend = None;
 }
 
 -- the box of these settings, if no line is missing, where the file has this count of lines
-abbrev pub whole_box : ℕ → KindWord → List Backend → Settings → Option BoxLine → Result BoxConf LineFault
-whole_box count k backends s None = Ok (conf_from k (values_set s) backends)
-whole_box count k backends s (Some line) = Err (fault_at (count + 1) MissingLine)
+abbrev pub whole_box : ℕ → KindWord → Named → Settings → Option BoxLine → Result BoxConf LineFault
+whole_box count k names s None = Ok (conf_from k (values_set s) names)
+whole_box count k names s (Some line) = Err (fault_at (count + 1) MissingLine)
 
-abbrev pub conf_of : ℕ → KindWord → List Backend → Result Settings LineFault → Result BoxConf LineFault
-conf_of count k backends (Ok s) = whole_box count k backends s (missing_line k s)
-conf_of count k backends (Err fault) = Err fault
+abbrev pub conf_of : ℕ → KindWord → Named → Result Settings LineFault → Result BoxConf LineFault
+conf_of count k names (Ok s) = whole_box count k names s (missing_line k s)
+conf_of count k names (Err fault) = Err fault
 
-abbrev pub and_kind : ℕ → ℕ → List Backend → Result KindWord LineCause → List (ℕ × List ℕ) → Result BoxConf LineFault
-and_kind count line backends (Ok k) lines = conf_of count k backends (set_lines k no_settings lines)
-and_kind count line backends (Err cause) lines = Err (fault_at line cause)
+abbrev pub and_kind : ℕ → ℕ → Named → Result KindWord LineCause → List (ℕ × List ℕ) → Result BoxConf LineFault
+and_kind count line names (Ok k) lines = conf_of count k names (set_lines k no_settings lines)
+and_kind count line names (Err cause) lines = Err (fault_at line cause)
 
 -- the lines that count, of a file with this count of lines
 abbrev pub box_of_lines : ℕ → List (ℕ × List ℕ) → Result BoxConf LineFault
 box_of_lines count [] = Err (fault_at (count + 1) MissingLine)
 box_of_lines count (line ∷ lines) =
-    and_kind count line.0 (backends_after [] (line ∷ lines)) (first_line (words_of line.1)) lines
+    and_kind count line.0 (named_in (line ∷ lines)) (first_line (words_of line.1)) lines
 
 -- the box that a file describes by the table of its kind, or the first fault by it
 abbrev pub described_box : List ℕ → Result BoxConf LineFault
 described_box text = box_of_lines (length (lines text)) (counted_lines text)
 
 abbrev pub earlier : LineFault → LineFault → LineFault
-earlier of_table of_backends = if nat_lt of_backends.line of_table.line then of_backends else of_table
+earlier of_table of_names = if nat_lt of_names.line of_table.line then of_names else of_table
 
-abbrev pub or_backends : Result BoxConf LineFault → Option LineFault → Result BoxConf LineFault
-or_backends (Ok conf) None = Ok conf
-or_backends (Ok conf) (Some fault) = Err fault
-or_backends (Err fault) None = Err fault
-or_backends (Err of_table) (Some of_backends) = Err (earlier of_table of_backends)
+abbrev pub or_names : Result BoxConf LineFault → Option LineFault → Result BoxConf LineFault
+or_names (Ok conf) None = Ok conf
+or_names (Ok conf) (Some fault) = Err fault
+or_names (Err fault) None = Err fault
+or_names (Err of_table) (Some of_names) = Err (earlier of_table of_names)
 
 -- the box that a file describes, or its first fault
 abbrev pub box_of : List ℕ → Result BoxConf LineFault
-box_of text = or_backends (described_box text) (backend_fault [] (counted_lines text))
+box_of text = or_names (described_box text) (names_fault no_names (counted_lines text))

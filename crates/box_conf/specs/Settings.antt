@@ -1,16 +1,17 @@
 -- What the lines of a box file have set, as the reader keeps it.
-use Rattle.std.specs.Prelude.{◌≡◌, ℕ, ◌^◌, ◌<◌, ◌≤◌, Option, Some, None, ◌||◌, ◌&&◌, List, [], not, is_some, unwrap_or}
-use Rattle.std.specs.Prelude.{if◌then◌else◌, Bool, true, false, Result, Ok, Err, IfSome}
+use Rattle.std.specs.Prelude.{◌≡◌, ℕ, ◌^◌, ◌<◌, ◌≤◌, Option, Some, None, ◌||◌, ◌&&◌, List, [], ◌∷◌, map, not, is_some}
+use Rattle.std.specs.Prelude.{unwrap_or, if◌then◌else◌, Bool, true, false, Result, Ok, Err, IfSome}
 use Rattle.plain_text.specs.declared.fault.LineCause.{LineCause}
-use Rattle.plain_text.specs.declared.fault.LineCause.TheVariants.{OutOfRange, Twice}
-use Rattle.plain_text.specs.Grammar.{form_fault, range_fault, row_fault, values_in}
+use Rattle.plain_text.specs.declared.fault.LineCause.TheVariants.{MissingWord, OutOfRange, Twice}
+use Rattle.plain_text.specs.Grammar.{form_fault, misfit, range_fault, row_fault, value_at, values_in}
+use Rattle.box_conf.specs.declared.settings.ReadValues.{ReadValues}
 use Rattle.box_conf.specs.declared.settings.Settings.{Settings}
 use Rattle.box_conf.specs.declared.table.BoxLine.{BoxLine}
 use Rattle.box_conf.specs.declared.table.BoxLine.TheVariants.{Threads, Seed, Shards, Inside, Outside, Ports, Closing}
-use Rattle.box_conf.specs.declared.table.BoxLine.TheVariants.{Virtual, Backend}
-use Rattle.box_conf.specs.declared.table.Places.{Places}
+use Rattle.box_conf.specs.declared.table.BoxLine.TheVariants.{Icmp, Static, Virtual, Backend}
+use Rattle.box_conf.specs.declared.table.LinePlace.{LinePlace}
 use Rattle.box_conf.specs.declared.table.Values.{Values}
-use Rattle.box_conf.specs.Table.{again_of, all_places, are_within, fits_of, places_of, row_of, usual_of, values_from}
+use Rattle.box_conf.specs.Table.{again_of, fits_of, grammar_place, row_of, usual_of, values_from}
 
 abbrev pub setting : Settings → BoxLine → Option Values
 setting s Threads = s.threads
@@ -20,6 +21,8 @@ setting s Inside = s.inside
 setting s Outside = s.outside
 setting s Ports = s.ports
 setting s Closing = s.closing
+setting s Icmp = s.icmp
+setting s Static = s.static_port
 setting s Virtual = s.virtual_end
 setting s Backend = s.backend
 
@@ -31,6 +34,8 @@ with_setting s Inside values = record s { inside = Some values }
 with_setting s Outside values = record s { outside = Some values }
 with_setting s Ports values = record s { ports = Some values }
 with_setting s Closing values = record s { closing = Some values }
+with_setting s Icmp values = record s { icmp = Some values }
+with_setting s Static values = record s { static_port = Some values }
 with_setting s Virtual values = record s { virtual_end = Some values }
 with_setting s Backend values = record s { backend = Some values }
 
@@ -49,15 +54,30 @@ values_set s line = unwrap_or (setting s line) (values_from (usual_or_none line)
 abbrev pub has_values : Settings → BoxLine → Bool
 has_values s line = is_some (usual_of line) || is_some (setting s line)
 
+abbrev pub value_or : LineCause → Option ℕ → List (List ℕ) → Result (ℕ × List (List ℕ)) LineCause
+value_or cause None words = Err cause
+value_or cause (Some n) words = Ok (n, words)
+
+-- the value of the word at a place, and the words behind it
+abbrev pub take_value : LinePlace → List (List ℕ) → Result (ℕ × List (List ℕ)) LineCause
+take_value place [] = Err MissingWord
+take_value place (word ∷ words) =
+    value_or (misfit (grammar_place place)) (value_at (grammar_place place) word) words
+
+-- these values, with one more before them
+abbrev pub put_before : ℕ → Values → Values
+put_before n values =
+    record { first = n; second = values.first; third = values.second; fourth = values.third }
+
 -- of words that have the forms of these places, these are the values; out of range where one is
-pub record AreRead (places : Places) (words : List (List ℕ)) (values : Values) : Type 0 where
-  pub form : form_fault (all_places places) words ≡ None
-  pub are : values ≡ values_from (values_in (all_places places) words)
-  pub range : range_fault (all_places places) words ≡ (if are_within places values then None else Some OutOfRange)
+pub record AreRead (places : List LinePlace) (words : List (List ℕ)) (read : ReadValues) : Type 0 where
+  pub form : form_fault (map grammar_place places) words ≡ None
+  pub are : read.values ≡ values_from (values_in (map grammar_place places) words)
+  pub range : range_fault (map grammar_place places) words ≡ (if read.within then None else Some OutOfRange)
 
 -- values of which one is out of its range, or that do not fit one another
-abbrev pub values_fault : BoxLine → Values → Option LineCause
-values_fault line values = if are_within (places_of line) values && fits_of line values then None else Some OutOfRange
+abbrev pub values_fault : BoxLine → ReadValues → Option LineCause
+values_fault line read = if read.within && fits_of line read.values then None else Some OutOfRange
 
 -- a line that may stand once, and stood before or not
 abbrev pub once : Option LineCause → Bool → Values → Result Values LineCause
@@ -84,6 +104,8 @@ IsWithin Inside values = (values.first < 2 ^ 32) × (1 ≤ values.second) × (va
 IsWithin Outside values = values.first < 2 ^ 32
 IsWithin Ports values = (1 ≤ values.first) × (values.first ≤ values.second) × (values.second ≤ 65535)
 IsWithin Closing values = values.first < 2 ^ 32
+IsWithin Icmp values = Unit {0}
+IsWithin Static values = (values.second < 2 ^ 32) × (values.third ≤ 65535) × (values.fourth ≤ 65535)
 IsWithin Virtual values = (values.first < 2 ^ 32) × (values.second ≤ 65535)
 IsWithin Backend values = (values.first < 2 ^ 32) × (values.second ≤ 65535)
 

@@ -1,18 +1,15 @@
 -- The lines of box files that set values, as a table: the word of each, what stands after it, how its values fit one
--- another, and the usual values. Each may stand once, but for `backend`, and has to stand where it has no usual values.
-use Rattle.std.specs.Prelude.{ℕ, ◌-◌, ◌^◌, ◌&&◌, Bool, true, false, List, [], ◌∷◌, codes, is_none, nat_le, slice_index}
+-- another, and the usual values. Each may stand once, but for `static` and `backend`, and has to stand where it has no
+-- usual values.
+use Rattle.std.specs.Prelude.{ℕ, ◌-◌, ◌^◌, Bool, true, false, List, [], ◌∷◌, map, codes, is_none, nat_le, slice_index}
 use Rattle.std.specs.Prelude.{Option, Some, None}
-use Rattle.plain_text.specs.declared.field.Field.{Field}
-use Rattle.plain_text.specs.declared.field.Field.TheVariants as field
-use Rattle.plain_text.specs.Grammar.{Place, Row, is_within}
+use Rattle.plain_text.specs.Grammar.{Place, Row}
 use Rattle.plain_text.specs.Grammar as place
 use Rattle.box_conf.specs.declared.table.BoxLine.{BoxLine}
 use Rattle.box_conf.specs.declared.table.BoxLine.TheVariants.{Threads, Seed, Shards, Inside, Outside, Ports, Closing}
-use Rattle.box_conf.specs.declared.table.BoxLine.TheVariants.{Virtual, Backend}
+use Rattle.box_conf.specs.declared.table.BoxLine.TheVariants.{Icmp, Static, Virtual, Backend}
 use Rattle.box_conf.specs.declared.table.LinePlace.{LinePlace}
-use Rattle.box_conf.specs.declared.table.LinePlace.TheVariants.{Number, Address}
-use Rattle.box_conf.specs.declared.table.Places.{Places}
-use Rattle.box_conf.specs.declared.table.Places.TheVariants.{One, Two}
+use Rattle.box_conf.specs.declared.table.LinePlace.TheVariants.{Number, Address, Protocol, Errors}
 use Rattle.box_conf.specs.declared.table.Values.{Values}
 
 -- Line by line
@@ -25,19 +22,23 @@ word_of Inside = codes "inside"
 word_of Outside = codes "outside"
 word_of Ports = codes "ports"
 word_of Closing = codes "closing"
+word_of Icmp = codes "icmp"
+word_of Static = codes "static"
 word_of Virtual = codes "virtual"
 word_of Backend = codes "backend"
 
-abbrev pub places_of : BoxLine → Places
-places_of Threads = One (Number 1 16)
-places_of Seed = One (Number 0 (2 ^ 64 - 1))
-places_of Shards = One (Number 1 64)
-places_of Inside = Two Address (Number 1 32)
-places_of Outside = One Address
-places_of Ports = Two (Number 1 65535) (Number 1 65535)
-places_of Closing = One (Number 1 (2 ^ 32 - 1))
-places_of Virtual = Two Address (Number 0 65535)
-places_of Backend = Two Address (Number 0 65535)
+abbrev pub places_of : BoxLine → List LinePlace
+places_of Threads = Number 1 16 ∷ []
+places_of Seed = Number 0 (2 ^ 64 - 1) ∷ []
+places_of Shards = Number 1 64 ∷ []
+places_of Inside = Address ∷ Number 1 32 ∷ []
+places_of Outside = Address ∷ []
+places_of Ports = Number 1 65535 ∷ Number 1 65535 ∷ []
+places_of Closing = Number 1 (2 ^ 32 - 1) ∷ []
+places_of Icmp = Errors ∷ []
+places_of Static = Protocol ∷ Address ∷ Number 1 65535 ∷ Number 1 65535 ∷ []
+places_of Virtual = Address ∷ Number 0 65535 ∷ []
+places_of Backend = Address ∷ Number 0 65535 ∷ []
 
 -- the first port is not above the last
 abbrev pub fits_of : BoxLine → Values → Bool
@@ -48,10 +49,12 @@ fits_of Inside values = true
 fits_of Outside values = true
 fits_of Ports values = nat_le values.first values.second
 fits_of Closing values = true
+fits_of Icmp values = true
+fits_of Static values = true
 fits_of Virtual values = true
 fits_of Backend values = true
 
--- there may be several backends
+-- there may be several static ports, and several backends
 abbrev pub again_of : BoxLine → Bool
 again_of Threads = false
 again_of Seed = false
@@ -60,9 +63,12 @@ again_of Inside = false
 again_of Outside = false
 again_of Ports = false
 again_of Closing = false
+again_of Icmp = false
+again_of Static = true
 again_of Virtual = false
 again_of Backend = true
 
+-- `icmp` has the index of its word, and 1 where it is not there
 abbrev pub usual_of : BoxLine → Option (List ℕ)
 usual_of Threads = Some (1 ∷ [])
 usual_of Seed = Some (0 ∷ [])
@@ -71,6 +77,8 @@ usual_of Inside = None
 usual_of Outside = None
 usual_of Ports = Some (1024 ∷ 65535 ∷ [])
 usual_of Closing = Some (0 ∷ [])
+usual_of Icmp = Some (1 ∷ [])
+usual_of Static = Some []
 usual_of Virtual = None
 usual_of Backend = None
 
@@ -79,28 +87,22 @@ usual_of Backend = None
 abbrev pub grammar_place : LinePlace → Place
 grammar_place (Number low high) = place.Number low high
 grammar_place Address = place.Address
+grammar_place Protocol = place.OneOf (codes "tcp" ∷ codes "udp" ∷ [])
+grammar_place Errors = place.OneOf (codes "errors" ∷ [])
 
-abbrev pub field_of : LinePlace → Field
-field_of (Number low high) = field.Number
-field_of Address = field.Address
-
-abbrev pub all_places : Places → List Place
-all_places (One place) = grammar_place place ∷ []
-all_places (Two first second) = grammar_place first ∷ grammar_place second ∷ []
-
-abbrev pub are_within : Places → Values → Bool
-are_within (One place) values = is_within (grammar_place place) values.first
-are_within (Two first second) values =
-    is_within (grammar_place first) values.first && is_within (grammar_place second) values.second
-
--- the values of a line as a pair, where those that are not there are 0
+-- the values of a line, where those that are not there are 0
 abbrev pub values_from : List ℕ → Values
-values_from values = record { first = slice_index values 0; second = slice_index values 1 }
+values_from values = record {
+  first = slice_index values 0;
+  second = slice_index values 1;
+  third = slice_index values 2;
+  fourth = slice_index values 3;
+}
 
 abbrev pub row_of : BoxLine → Row
 row_of line = record {
   word = word_of line;
-  places = all_places (places_of line);
+  places = map grammar_place (places_of line);
   fits = λ values. fits_of line (values_from values);
   again = again_of line;
   required = is_none (usual_of line);

@@ -1,17 +1,16 @@
-ghost use Rattle.std.specs.Prelude.{◌≡◌, ◌≤◌, [], Ok, Err, None, IfOk, IfErr, length};
+ghost use Rattle.std.specs.Prelude.{◌≡◌, ◌≤◌, Ok, Err, None, IfOk, IfErr, length};
 ghost use Rattle.plain_text.specs.Lines.{counted_lines};
-ghost use Rattle.box_conf.specs.Backends.{backends_after};
 ghost use Rattle.box_conf.specs.Kinds.{conf_from, missing_line, IsBalancer};
 ghost use Rattle.box_conf.specs.BoxFile.{IsBoxFile, FirstFault};
+ghost use Rattle.box_conf.specs.Names.{named_in};
 ghost use Rattle.box_conf.specs.Reading.{box_of, described_box, earlier, box_line, first_line};
 ghost use Rattle.box_conf.specs.Reading.{set_line};
 ghost use Rattle.box_conf.specs.Settings.{AreInRange, values_set};
 
-use crate::backends::read_backends;
 use crate::kind::{BoxConf, KindWord};
+use crate::names::{Named, read_names};
 use crate::settings::{Settings, read_line};
 use crate::table::BoxLine;
-use balancer_box::Backends;
 use plain_text::{LineCause, LineFault, WordIter, count_lines, end_of_line, lines, words};
 
 /// The word of the line that names the kind.
@@ -20,7 +19,7 @@ const BOX: &[u8] = b"box";
 /// Reads a box file, or names its first fault. It takes no memory.
 ///
 /// Its first line that counts is `box KIND`, where the kind is `count`, `monitor`, `nat` or `balancer`; the others come
-/// in any order, each at most once, but for `backend`.
+/// in any order, each at most once, but for `static` and `backend`.
 ///
 /// | Line | Kinds | Range | Where it is not there |
 /// |---|---|---|---|
@@ -30,9 +29,14 @@ const BOX: &[u8] = b"box";
 /// | `inside ADDRESS LENGTH` | `nat` | a length of 1 to 32 bits | a fault |
 /// | `outside ADDRESS` | `nat` | any address | a fault |
 /// | `ports LOW HIGH` | `nat` | 1 to 65,535, LOW at most HIGH | 1024 65535 |
-/// | `closing SECONDS` | `nat` | 1 to 4,294,967,295 | connections are not followed |
+/// | `closing SECONDS` | `nat`, `balancer` | 1 to 4,294,967,295 | connections are not followed |
+/// | `icmp errors` | `nat` | | errors of ICMP are dropped |
+/// | `static PROTOCOL ADDRESS PORT OUTSIDE_PORT` | `nat` | `tcp` or `udp`, ports of 1 to 65,535 | there is none |
 /// | `virtual ADDRESS PORT` | `balancer` | a port of 0 to 65,535 | a fault |
-/// | `backend ADDRESS PORT` | `balancer` | a port of 0 to 65,535; 1 to 64 lines, each with another backend | a fault |
+/// | `backend ADDRESS PORT` | `balancer` | a port of 0 to 65,535 | a fault |
+///
+/// Of `static` and of `backend` there are at most 64 lines. No backend stands twice, and no two static ports of one
+/// protocol have the same inside endpoint or the same outside port.
 pub fn read_box(text: &[u8]) -> Result<BoxConf, LineFault>
     ensures value { IfOk result (IsBoxFile text.now) }
     ensures threads { IfOk result (λ conf. (1 ≤ conf.threads) × (conf.threads ≤ 16)) }
@@ -41,31 +45,30 @@ pub fn read_box(text: &[u8]) -> Result<BoxConf, LineFault>
     read_both(text)
 }
 
-/// The same, by the steps of the reader: what the lines set, and the backends that they name; of two faults the earlier
-/// one.
+/// The same, by the steps of the reader: what the lines set, and what they name; of two faults the earlier one.
 fn read_both(text: &[u8]) -> Result<BoxConf, LineFault>
     ensures value { result ≡ box_of text.now }
     ensures threads { IfOk result (λ conf. (1 ≤ conf.threads) × (conf.threads ≤ 16)) }
 {
-    let backends = read_backends(text);
+    let names = read_names(text);
     match read_settings(text) {
-        Ok(set) => match backends {
-            Ok(backends) => Ok(make_conf(set.kind, set.settings, backends)),
+        Ok(set) => match names {
+            Ok(names) => Ok(make_conf(set.kind, set.settings, names)),
             Err(fault) => Err(fault),
         },
-        Err(of_table) => match backends {
+        Err(of_table) => match names {
             Ok(_) => Err(of_table),
-            Err(of_backends) => Err(earlier(of_table, of_backends)),
+            Err(of_names) => Err(earlier(of_table, of_names)),
         },
     }
 }
 
 /// The fault of the earlier line.
-fn earlier(of_table: LineFault, of_backends: LineFault) -> LineFault
-    ensures { result ≡ earlier of_table of_backends }
+fn earlier(of_table: LineFault, of_names: LineFault) -> LineFault
+    ensures { result ≡ earlier of_table of_names }
 {
-    if of_backends.line < of_table.line {
-        of_backends
+    if of_names.line < of_table.line {
+        of_names
     } else {
         of_table
     }
@@ -82,7 +85,7 @@ struct SetLines {
 fn read_settings(text: &[u8]) -> Result<SetLines, LineFault>
     ensures value { IfOk result (λ set. described_box text.now
         ≡ Ok (conf_from set.kind (values_set set.settings)
-        (backends_after [] (counted_lines text.now)))) }
+        (named_in (counted_lines text.now)))) }
     ensures in_range { IfOk result (λ set. AreInRange set.settings) }
     ensures whole { IfOk result (λ set. missing_line set.kind set.settings ≡ None) }
     ensures fault { IfErr result (λ fault. described_box text.now ≡ Err fault) }
@@ -103,6 +106,8 @@ fn read_settings(text: &[u8]) -> Result<SetLines, LineFault>
         outside: None,
         ports: None,
         closing: None,
+        icmp: None,
+        static_port: None,
         virtual_end: None,
         backend: None,
     };
@@ -118,19 +123,19 @@ fn read_settings(text: &[u8]) -> Result<SetLines, LineFault>
     }
 }
 
-/// The box of these settings and backends.
-fn make_conf(kind: KindWord, settings: Settings, backends: Backends) -> BoxConf
+/// The box of these settings and names.
+fn make_conf(kind: KindWord, settings: Settings, names: Named) -> BoxConf
     requires in_range { AreInRange settings }
     requires whole { missing_line kind settings ≡ None }
-    requires some { IsBalancer kind → 1 ≤ length backends }
-    requires few { length backends ≤ 64 }
-    ensures value { result ≡ conf_from kind (values_set settings) backends }
+    requires some { IsBalancer kind → 1 ≤ length names.backends }
+    requires few { length names.backends ≤ 64 }
+    ensures value { result ≡ conf_from kind (values_set settings) names }
     ensures threads { (1 ≤ result.threads) × (result.threads ≤ 16) }
 {
     BoxConf {
         threads: settings.values(BoxLine::Threads).first as u32,
         seed: settings.values(BoxLine::Seed).first,
-        kind: kind.make(settings, backends),
+        kind: kind.make(settings, names),
     }
 }
 

@@ -1,15 +1,17 @@
 ghost use Rattle.std.specs.Prelude.{◌≡◌, ◌≤◌, ◌<◌, ◌^◌, true, None, is_some, length};
 ghost use Rattle.box_conf.specs.Kinds.{kind_named, lines_of, line_named, missing_line, box_from};
-ghost use Rattle.box_conf.specs.Kinds.{seconds_of, nat_from, IsBalancer};
+ghost use Rattle.box_conf.specs.Kinds.{seconds_of, nat_from, balancer_from, IsBalancer};
 ghost use Rattle.box_conf.specs.Settings.{AreInRange, setting, values_set};
-ghost use Rattle.box_conf.specs.declared.table.BoxLine.TheVariants.{Inside, Outside};
+ghost use Rattle.box_conf.specs.declared.table.BoxLine.TheVariants.{Inside, Outside, Virtual};
 
+use crate::names::Named;
 use crate::settings::Settings;
 use crate::table::BoxLine;
 use balancer_box::{Backends, BalancerBox};
 use box_program::CountBox;
+use flow_boxes::ShortList;
 use monitor_box::MonitorBox;
-use nat_box::NatBox;
+use nat_box::{NatBox, StaticPort};
 
 /// The box that runs, with its settings.
 #[derive(Debug, Drop)]
@@ -73,6 +75,8 @@ impl KindWord {
                 BoxLine::Outside,
                 BoxLine::Ports,
                 BoxLine::Closing,
+                BoxLine::Icmp,
+                BoxLine::Static,
             ],
             KindWord::Balancer => &[
                 BoxLine::Threads,
@@ -80,17 +84,18 @@ impl KindWord {
                 BoxLine::Shards,
                 BoxLine::Virtual,
                 BoxLine::Backend,
+                BoxLine::Closing,
             ],
         }
     }
 
-    /// The box of this kind, where its lines have set these values and named these backends, and none is missing.
-    pub fn make(self, settings: Settings, backends: Backends) -> BoxKind
+    /// The box of this kind, where its lines have set these values and named these, and none is missing.
+    pub fn make(self, settings: Settings, names: Named) -> BoxKind
         requires in_range { AreInRange settings }
         requires whole { missing_line self settings ≡ None }
-        requires some { IsBalancer self → 1 ≤ length backends }
-        requires few { length backends ≤ 64 }
-        ensures { result ≡ box_from self (values_set settings) backends }
+        requires some { IsBalancer self → 1 ≤ length names.backends }
+        requires few { length names.backends ≤ 64 }
+        ensures { result ≡ box_from self (values_set settings) names }
     {
         match self {
             KindWord::Count => BoxKind::Count(CountBox::new()),
@@ -98,17 +103,8 @@ impl KindWord {
                 let shards = settings.values(BoxLine::Shards).first;
                 BoxKind::Monitor(MonitorBox::new(shards as u32))
             }
-            KindWord::Nat => BoxKind::Nat(make_nat(settings)),
-            KindWord::Balancer => {
-                let shards = settings.values(BoxLine::Shards).first;
-                let end = settings.values(BoxLine::Virtual);
-                BoxKind::Balancer(BalancerBox::new(
-                    shards as u32,
-                    end.first as u32,
-                    end.second as u16,
-                    backends,
-                ))
-            }
+            KindWord::Nat => BoxKind::Nat(make_nat(settings, names.statics)),
+            KindWord::Balancer => BoxKind::Balancer(make_balancer(settings, names.backends)),
         }
     }
 
@@ -143,12 +139,12 @@ fn seconds_of(number: u64) -> Option<u32>
     }
 }
 
-/// The NAT of these settings.
-fn make_nat(settings: Settings) -> NatBox
+/// The NAT of these settings and static ports.
+fn make_nat(settings: Settings, statics: ShortList<StaticPort>) -> NatBox
     requires in_range { AreInRange settings }
     requires inside { is_some (setting settings Inside) ≡ true }
     requires outside { is_some (setting settings Outside) ≡ true }
-    ensures { result ≡ nat_from (values_set settings) }
+    ensures { result ≡ nat_from (values_set settings) statics }
 {
     let shards = settings.values(BoxLine::Shards).first;
     let inside = settings.values(BoxLine::Inside);
@@ -164,4 +160,22 @@ fn make_nat(settings: Settings) -> NatBox
         ports.second as u16,
     )
     .with_closing(seconds_of(closing))
+    .with_statics(statics)
+    .with_errors(settings.values(BoxLine::Icmp).first == 0)
+}
+
+/// The balancer of these settings and backends.
+fn make_balancer(settings: Settings, backends: Backends) -> BalancerBox
+    requires in_range { AreInRange settings }
+    requires end { is_some (setting settings Virtual) ≡ true }
+    requires some { 1 ≤ length backends }
+    requires few { length backends ≤ 64 }
+    ensures { result ≡ balancer_from (values_set settings) backends }
+{
+    let shards = settings.values(BoxLine::Shards).first;
+    let end = settings.values(BoxLine::Virtual);
+    let closing = settings.values(BoxLine::Closing).first;
+    BalancerBox::new(shards as u32, end.first as u32, end.second as u16, backends).with_closing(
+        seconds_of(closing),
+    )
 }

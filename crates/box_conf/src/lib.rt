@@ -1,10 +1,10 @@
 //! Box files: which box runs, on how many threads, and with which seed.
 #![tactic(auto)]
 
-mod backends;
 mod conf;
 mod kind;
 mod laws;
+mod names;
 mod settings;
 mod table;
 

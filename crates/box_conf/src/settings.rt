@@ -1,13 +1,12 @@
-ghost use Rattle.std.specs.Prelude.{◌≡◌, IfOk, IfErr, IsTrue, Some};
+ghost use Rattle.std.specs.Prelude.{◌≡◌, Ok, Err, IfOk, IfErr, IsTrue, Some, map};
 ghost use Rattle.plain_text.specs.Grammar.{form_fault};
 ghost use Rattle.box_conf.specs.Settings.{setting, with_setting, has_stood, values_set};
-ghost use Rattle.box_conf.specs.Settings.{values_fault, line_read, once, AreRead, AreInRange};
-ghost use Rattle.box_conf.specs.Settings.{IsWithin, has_values};
-ghost use Rattle.box_conf.specs.Table.{all_places};
-ghost use Rattle.box_conf.specs.declared.table.Places.TheVariants.{One, Two};
+ghost use Rattle.box_conf.specs.Settings.{take_value, values_fault, line_read, once, AreRead};
+ghost use Rattle.box_conf.specs.Settings.{AreInRange, IsWithin, has_values};
+ghost use Rattle.box_conf.specs.Table.{grammar_place};
 
-use crate::table::{BoxLine, LinePlace, Places, Values};
-use plain_text::{LineCause, WordIter, end_of_line, read_field};
+use crate::table::{BoxLine, LinePlace, Values};
+use plain_text::{LineCause, WordIter, end_of_line};
 
 /// What the lines of a box file have set, by their first words; `None` where there was no such line.
 #[derive(Clone, Copy, Debug, PartialEq, Eq)]
@@ -19,6 +18,9 @@ pub struct Settings {
     pub outside: Option<Values>,
     pub ports: Option<Values>,
     pub closing: Option<Values>,
+    pub icmp: Option<Values>,
+    /// The newest of the static ports.
+    pub static_port: Option<Values>,
     pub virtual_end: Option<Values>,
     /// The newest of the backends.
     pub backend: Option<Values>,
@@ -37,6 +39,8 @@ impl Settings {
             BoxLine::Outside => self.outside,
             BoxLine::Ports => self.ports,
             BoxLine::Closing => self.closing,
+            BoxLine::Icmp => self.icmp,
+            BoxLine::Static => self.static_port,
             BoxLine::Virtual => self.virtual_end,
             BoxLine::Backend => self.backend,
         }
@@ -70,6 +74,11 @@ impl Settings {
                 closing: set,
                 ..self
             },
+            BoxLine::Icmp => Settings { icmp: set, ..self },
+            BoxLine::Static => Settings {
+                static_port: set,
+                ..self
+            },
             BoxLine::Virtual => Settings {
                 virtual_end: set,
                 ..self
@@ -96,10 +105,7 @@ impl Settings {
     {
         match self.get(line) {
             Some(values) => values,
-            None => line.usual().unwrap_or(Values {
-                first: 0,
-                second: 0,
-            }),
+            None => line.usual().unwrap_or(Values::none()),
         }
     }
 }
@@ -116,54 +122,66 @@ pub fn read_line(words: WordIter<'_>, line: BoxLine, had: bool) -> Result<Values
 fn read_values(words: WordIter<'_>, line: BoxLine, had: bool) -> Result<Values, LineCause>
     ensures { result ≡ line_read line had words.entry }
 {
-    let values = read_places(words, line.places())?;
-    accepted(line, values, had)
+    let read = read_places(words, line.places())?;
+    accepted(line, read, had)
 }
 
-/// The values of the words after the first of a line, of which each has to have the form that its place asks for.
-fn read_places(words: WordIter<'_>, places: Places) -> Result<Values, LineCause>
-    ensures values { IfOk result (AreRead places words.entry) }
+/// The values of words, and whether each is in the range of its place.
+#[derive(Clone, Copy, Debug, PartialEq, Eq)]
+pub struct ReadValues {
+    pub values: Values,
+    pub within: bool,
+}
+
+/// The values of a line's words, of which each has to have the form that its place asks for.
+#[tactic(auto, using(crate::proofs::Places::none_left, crate::proofs::Places::word_left, crate::proofs::Places::takes_none, crate::proofs::Places::later_fault, crate::proofs::Places::one_more))]
+fn read_places(mut words: WordIter<'_>, places: &[LinePlace]) -> Result<ReadValues, LineCause>
+    ensures values { IfOk result (AreRead places.now words.entry) }
     ensures fault { IfErr result (λ cause.
-        form_fault (all_places places) words.entry ≡ Some cause) }
+        form_fault (map grammar_place places.now) words.entry ≡ Some cause) }
 {
     match places {
-        Places::One(place) => read_one(words, place),
-        Places::Two(first, second) => read_two(words, first, second),
+        [] => {
+            end_of_line(words)?;
+            Ok(ReadValues {
+                values: Values::none(),
+                within: true,
+            })
+        }
+        [place, rest @ ..] => {
+            let value = read_value(&mut words, *place)?;
+            let more = read_places(words, rest)?;
+            Ok(ReadValues {
+                values: more.values.behind(value),
+                within: place.has(value) && more.within,
+            })
+        }
     }
 }
 
-/// The value of a line's one word after its first.
-fn read_one(mut words: WordIter<'_>, place: LinePlace) -> Result<Values, LineCause>
-    ensures values { IfOk result (AreRead (One place) words.entry) }
-    ensures fault { IfErr result (λ cause.
-        form_fault (all_places (One place)) words.entry ≡ Some cause) }
+/// Takes the next word of a line, which has to have the form that this place asks for, and gives its value.
+fn read_value(words: &mut WordIter<'_>, place: LinePlace) -> Result<u64, LineCause>
+    ensures value { IfOk result (λ n. take_value place words.old ≡ Ok (n, words.new)) }
+    ensures fault { IfErr result (λ cause. take_value place words.old ≡ Err cause) }
 {
-    let first = read_field(&mut words, place.field())?;
-    end_of_line(words)?;
-    Ok(Values { first, second: 0 })
-}
-
-/// The values of a line's two words after its first.
-fn read_two(mut words: WordIter<'_>, front: LinePlace, back: LinePlace) -> Result<Values, LineCause>
-    ensures values { IfOk result (AreRead (Two front back) words.entry) }
-    ensures fault { IfErr result (λ cause. form_fault (all_places (Two front back)) words.entry
-        ≡ Some cause) }
-{
-    let first = read_field(&mut words, front.field())?;
-    let second = read_field(&mut words, back.field())?;
-    end_of_line(words)?;
-    Ok(Values { first, second })
+    let Some(word) = words.next() else {
+        return Err(LineCause::MissingWord);
+    };
+    match place.value(word) {
+        Some(value) => Ok(value),
+        None => Err(place.misfit()),
+    }
 }
 
 /// The values, where they are in their ranges and the line stands once.
-fn accepted(line: BoxLine, values: Values, had: bool) -> Result<Values, LineCause>
-    ensures { result ≡ once (values_fault line values) had values }
+fn accepted(line: BoxLine, read: ReadValues, had: bool) -> Result<Values, LineCause>
+    ensures { result ≡ once (values_fault line read) had read.values }
 {
-    if !line.places().have(values) || !line.fits(values) {
+    if !read.within || !line.fits(read.values) {
         return Err(LineCause::OutOfRange);
     }
     if had {
         return Err(LineCause::Twice);
     }
-    Ok(values)
+    Ok(read.values)
 }

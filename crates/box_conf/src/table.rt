@@ -1,11 +1,12 @@
-ghost use Rattle.std.specs.Prelude.{◌≡◌, option_map};
-ghost use Rattle.plain_text.specs.Grammar.{is_within};
-ghost use Rattle.box_conf.specs.Table.{word_of, grammar_place, places_of, again_of, field_of};
-ghost use Rattle.box_conf.specs.Table.{are_within, usual_of, fits_of, values_from};
+ghost use Rattle.std.specs.Prelude.{◌≡◌, [], option_map};
+ghost use Rattle.plain_text.specs.Grammar.{is_within, misfit, value_at};
+ghost use Rattle.box_conf.specs.Settings.{put_before};
+ghost use Rattle.box_conf.specs.Table.{word_of, grammar_place, places_of, again_of};
+ghost use Rattle.box_conf.specs.Table.{usual_of, fits_of, values_from};
 
-use plain_text::Field;
+use plain_text::{LineCause, read_address, read_u64};
 
-/// A line of a box file after the first, by its first word. It may stand once, but for `backend`.
+/// A line of a box file after the first, by its first word. It may stand once, but for `static` and `backend`.
 #[derive(Clone, Copy, Debug, PartialEq, Eq)]
 pub enum BoxLine {
     Threads,
@@ -15,6 +16,8 @@ pub enum BoxLine {
     Outside,
     Ports,
     Closing,
+    Icmp,
+    Static,
     Virtual,
     Backend,
 }
@@ -26,56 +29,98 @@ pub enum LinePlace {
     Number { low: u64, high: u64 },
     /// An IPv4 address, of four decimal numbers with points between them.
     Address,
+    /// The word `tcp`, whose value is 0, or `udp`, whose value is 1.
+    Protocol,
+    /// The word `errors`, whose value is 0.
+    Errors,
 }
 
-/// What stands on a line after its first word.
-#[derive(Clone, Copy, Debug, PartialEq, Eq)]
-pub enum Places {
-    /// One word stands there.
-    One(LinePlace),
-    /// Two words stand there.
-    Two(LinePlace, LinePlace),
-}
+/// A port of an endpoint: none has number 0.
+const PORT: LinePlace = LinePlace::Number {
+    low: 1,
+    high: 65_535,
+};
 
-/// The values of a line. Of a line with one value the second is 0.
+/// The values of a line's words after its first, at most four; those that are not there are 0. An address is a number
+/// below 2^32.
 #[derive(Clone, Copy, Debug, PartialEq, Eq)]
 pub struct Values {
-    /// The number behind the first word, or the address as a number below 2^32.
     pub first: u64,
-    /// The number behind that.
     pub second: u64,
+    pub third: u64,
+    pub fourth: u64,
+}
+
+impl Values {
+    /// The values of a line that has none.
+    pub fn none() -> Values
+        ensures { result ≡ values_from [] }
+    {
+        Values {
+            first: 0,
+            second: 0,
+            third: 0,
+            fourth: 0,
+        }
+    }
+
+    /// The values with one more before them.
+    pub fn behind(self, first: u64) -> Values
+        ensures { result ≡ put_before first self }
+    {
+        Values {
+            first,
+            second: self.first,
+            third: self.second,
+            fourth: self.third,
+        }
+    }
 }
 
 impl LinePlace {
-    /// What the word there has to be.
-    pub fn field(self) -> Field<'static>
-        ensures { result ≡ field_of self }
+    /// The value of a word there, if it has the form that it has to have.
+    pub fn value(self, word: &[u8]) -> Option<u64>
+        ensures { result ≡ value_at (grammar_place self) word.now }
     {
         match self {
-            LinePlace::Number { .. } => Field::Number,
-            LinePlace::Address => Field::Address,
+            LinePlace::Number { .. } => read_u64(word),
+            LinePlace::Address => Some(u64::from(read_address(word)?)),
+            LinePlace::Protocol => {
+                if word == b"tcp".as_slice() {
+                    Some(0)
+                } else if word == b"udp".as_slice() {
+                    Some(1)
+                } else {
+                    None
+                }
+            }
+            LinePlace::Errors => {
+                if word == b"errors".as_slice() {
+                    Some(0)
+                } else {
+                    None
+                }
+            }
+        }
+    }
+
+    /// The fault of a word there that has another form.
+    pub fn misfit(self) -> LineCause
+        ensures { result ≡ misfit (grammar_place self) }
+    {
+        match self {
+            LinePlace::Number { .. } | LinePlace::Address => LineCause::BadNumber,
+            LinePlace::Protocol | LinePlace::Errors => LineCause::UnknownWord,
         }
     }
 
     /// Whether a value is in the range of the place.
-    fn has(self, value: u64) -> bool
+    pub fn has(self, value: u64) -> bool
         ensures { result ≡ is_within (grammar_place self) value }
     {
         match self {
             LinePlace::Number { low, high } => low <= value && value <= high,
-            LinePlace::Address => true,
-        }
-    }
-}
-
-impl Places {
-    /// Whether each value is in the range of its place.
-    pub fn have(self, values: Values) -> bool
-        ensures { result ≡ are_within self values }
-    {
-        match self {
-            Places::One(place) => place.has(values.first),
-            Places::Two(first, second) => first.has(values.first) && second.has(values.second),
+            LinePlace::Address | LinePlace::Protocol | LinePlace::Errors => true,
         }
     }
 }
@@ -93,48 +138,40 @@ impl BoxLine {
             BoxLine::Outside => b"outside",
             BoxLine::Ports => b"ports",
             BoxLine::Closing => b"closing",
+            BoxLine::Icmp => b"icmp",
+            BoxLine::Static => b"static",
             BoxLine::Virtual => b"virtual",
             BoxLine::Backend => b"backend",
         }
     }
 
-    /// What stands after it.
-    pub fn places(self) -> Places
-        ensures { result ≡ places_of self }
+    /// What stands after it, word by word.
+    pub fn places(self) -> &'static [LinePlace]
+        ensures { result.now ≡ places_of self }
     {
         match self {
-            BoxLine::Threads => Places::One(LinePlace::Number { low: 1, high: 16 }),
-            BoxLine::Seed => Places::One(LinePlace::Number {
+            BoxLine::Threads => &[LinePlace::Number { low: 1, high: 16 }],
+            BoxLine::Seed => &[LinePlace::Number {
                 low: 0,
                 high: u64::MAX,
-            }),
-            BoxLine::Shards => Places::One(LinePlace::Number { low: 1, high: 64 }),
-            BoxLine::Inside => Places::Two(
-                LinePlace::Address,
-                LinePlace::Number { low: 1, high: 32 },
-            ),
-            BoxLine::Outside => Places::One(LinePlace::Address),
-            BoxLine::Ports => Places::Two(
-                LinePlace::Number {
-                    low: 1,
-                    high: 65_535,
-                },
-                LinePlace::Number {
-                    low: 1,
-                    high: 65_535,
-                },
-            ),
-            BoxLine::Closing => Places::One(LinePlace::Number {
+            }],
+            BoxLine::Shards => &[LinePlace::Number { low: 1, high: 64 }],
+            BoxLine::Inside => &[LinePlace::Address, LinePlace::Number { low: 1, high: 32 }],
+            BoxLine::Outside => &[LinePlace::Address],
+            BoxLine::Ports => &[PORT, PORT],
+            BoxLine::Closing => &[LinePlace::Number {
                 low: 1,
                 high: 4_294_967_295,
-            }),
-            BoxLine::Virtual | BoxLine::Backend => Places::Two(
+            }],
+            BoxLine::Icmp => &[LinePlace::Errors],
+            BoxLine::Static => &[LinePlace::Protocol, LinePlace::Address, PORT, PORT],
+            BoxLine::Virtual | BoxLine::Backend => &[
                 LinePlace::Address,
                 LinePlace::Number {
                     low: 0,
                     high: 65_535,
                 },
-            ),
+            ],
         }
     }
 
@@ -142,7 +179,7 @@ impl BoxLine {
     pub fn stands_again(self) -> bool
         ensures { result ≡ again_of self }
     {
-        self == BoxLine::Backend
+        self == BoxLine::Static || self == BoxLine::Backend
     }
 
     /// Whether values, each in its range, fit one another: the first port is not above the last.
@@ -157,24 +194,30 @@ impl BoxLine {
             | BoxLine::Inside
             | BoxLine::Outside
             | BoxLine::Closing
+            | BoxLine::Icmp
+            | BoxLine::Static
             | BoxLine::Virtual
             | BoxLine::Backend => true,
         }
     }
 
     /// The values that hold where the line is not there. A line that has none has to stand. `closing` is 0 then: no
-    /// connection is followed.
+    /// connection is followed; and `icmp` is 1: no word stands there.
     pub fn usual(self) -> Option<Values>
         ensures { result ≡ option_map values_from (usual_of self) }
     {
         let (first, second) = match self {
-            BoxLine::Threads => (1, 0),
-            BoxLine::Seed => (0, 0),
+            BoxLine::Threads | BoxLine::Icmp => (1, 0),
+            BoxLine::Seed | BoxLine::Closing | BoxLine::Static => (0, 0),
             BoxLine::Shards => (16, 0),
             BoxLine::Inside | BoxLine::Outside | BoxLine::Virtual | BoxLine::Backend => return None,
             BoxLine::Ports => (1024, 65_535),
-            BoxLine::Closing => (0, 0),
         };
-        Some(Values { first, second })
+        Some(Values {
+            first,
+            second,
+            third: 0,
+            fourth: 0,
+        })
     }
 }

@@ -19,9 +19,9 @@ use Rattle.nat_box.specs.declared.place.Place.{Place}
 use Rattle.nat_box.specs.declared.place.Place.TheVariants.{HearsTime, FindsMapping, UnbindsFreed, GivesBackFreed}
 use Rattle.nat_box.specs.declared.place.Place.TheVariants.{DrawsWord, ReservesPort, BindsPort, FindsOrBinds}
 use Rattle.nat_box.specs.declared.place.Place.TheVariants.{UnbindsLost, GivesBackLost, FindsEndpoint, AsksIfLives}
-use Rattle.nat_box.specs.declared.place.Place.TheVariants.{CountsDrop, SendsOut, Ends}
+use Rattle.nat_box.specs.declared.place.Place.TheVariants.{CountsDrop, SendsOut, Ends, FindsPort}
 use Rattle.nat_box.specs.declared.place.Class.{Class}
-use Rattle.nat_box.specs.declared.place.Class.TheVariants.{Outbound, Hairpin, Inbound}
+use Rattle.nat_box.specs.declared.place.Class.TheVariants.{Outbound, Hairpin, Inbound, OutboundError}
 use Rattle.nat_box.specs.declared.place.Noted.{Noted}
 use Rattle.nat_box.specs.declared.value.NatValue.{NatValue}
 use Rattle.nat_box.specs.declared.value.NatValue.TheVariants.{Dropped, Free, Mapped, Taken}
@@ -58,11 +58,13 @@ holds_none k e AsksIfLives n h = (refl, refl, refl, refl)
 holds_none k e CountsDrop n h = (refl, refl, refl, refl)
 holds_none k e SendsOut n h = (refl, refl, refl, refl)
 holds_none k e Ends n h = (refl, refl, refl, refl)
+holds_none k e FindsPort n h = (refl, refl, refl, refl)
 
 pub mapped_none : (n : Noted) (c : Class) → HoldsNone (mapped n c).place
 mapped_none n Outbound = tt
 mapped_none n Hairpin = tt
 mapped_none n Inbound = tt
+mapped_none n OutboundError = tt
 
 -- the places at which a variable is touched
 abbrev pub Touches : Place → Type 0
@@ -81,6 +83,7 @@ Touches AsksIfLives = ⊥
 Touches CountsDrop = Unit {0}
 Touches SendsOut = ⊥
 Touches Ends = ⊥
+Touches FindsPort = ⊥
 
 abbrev IsKind : Place → NatValue → Type 0
 IsKind HearsTime x = ⊥
@@ -125,6 +128,7 @@ IsKind CountsDrop (Mapped es) = Unit {0}
 IsKind CountsDrop (Taken bs) = Unit {0}
 IsKind SendsOut x = ⊥
 IsKind Ends x = ⊥
+IsKind FindsPort x = ⊥
 
 -- a variable has a value of its kind
 module _ (s : Settings) (some : 1 ≤ s.shards) where
@@ -171,6 +175,7 @@ module _ (s : Settings) (some : 1 ≤ s.shards) where
   wrong_kind CountsDrop (Taken bs) n v at fits wrong = omega (arith, at, fits.0, some)
   wrong_kind SendsOut x n v at fits wrong = absurd wrong
   wrong_kind Ends x n v at fits wrong = absurd wrong
+  wrong_kind FindsPort x n v at fits wrong = absurd wrong
 
 -- what is counted in one value and of one packet in hand
 abbrev pub seen : PortKey → Endpoint → NatValue → Place → Noted → Tally
@@ -393,11 +398,16 @@ module _ (s : Settings) (some : 1 ≤ s.shards) (k : PortKey) (e : Endpoint) (th
         same = omega (arith, sound.same, mf, qf, t.1);
       }
 
+  in_range : (low high : ℕ) (pool : PoolPorts) → low ≡ pool.low → high ≡ pool.high
+      → (y.mapped ≡ 0 → of_range low high k ≡ there) → y.mapped ≡ 0 → of_range pool.low pool.high k ≡ there
+  in_range low high pool a b range none =
+      ap (λ (l : ℕ). of_range l pool.high k) (sym a) ∙ ap (λ (h : ℕ). of_range low h k) (sym b) ∙ range none
+
   -- a port goes back to the pool
   module _ (n : Noted) (pool : PoolPorts) (p : Place)
       (was : (bare k p n ≡ one_if (same_port k n.freed)) × (queued k p n ≡ 0) × (queued_for k e p n ≡ 0)
       × (loose k p n ≡ 0)) (q : Place) (m : Noted) (none : HoldsNone q)
-      (range : of_range pool.low pool.high k ≡ there) where
+      (range : y.mapped ≡ 0 → of_range pool.low pool.high k ≡ there) where
     abbrev left : PoolPorts
     left = give_back n.freed.protocol n.freed.port pool
 
@@ -423,10 +433,11 @@ module _ (s : Settings) (some : 1 ≤ s.shards) (k : PortKey) (e : Endpoint) (th
         let one : bare k p n ≡ 1 = was.0 ∙ ap one_if same in
         let some : 1 ≤ y.bare = omega (arith, part.bare, one) in
         let full : there ≡ 1 = omega (arith, most, sound.one, some) in
+        let unmapped : y.mapped ≡ 0 = omega (arith, sound.one, some, most) in
         let empty : free_of k.protocol k.port pool ≡ 0 = omega (arith, part.free, sound.one, some, most) in
         let new : free_of k.protocol k.port left ≡ 1 =
         subst (λ (f : PortKey). free_of k.protocol k.port (give_back f.protocol f.port pool) ≡ 1) is
-        (free_given k pool (range ∙ full) empty) in
+        (free_given k pool (range unmapped ∙ full) empty) in
         let f : z.free ≡ y.free + 1 = omega (arith, shift.free, new, empty) in
         let mm : z.mapped ≡ y.mapped = omega (arith, shift.mapped) in
         let mf : z.mapped_for ≡ y.mapped_for = omega (arith, shift.mapped_for) in
@@ -550,7 +561,7 @@ module _ (s : Settings) (some : 1 ≤ s.shards) (k : PortKey) (e : Endpoint) (th
 
   -- each touch
   pub touch_sound : (p : Place) (x : NatValue) (n : Noted) (v : ℕ) → var_of s p n ≡ v → (v == reverse_table s k) ≡ own
-      → Fits s v x → of_range s.low s.high k ≡ there → IsPart (seen k e x p n) y
+      → Fits s v x → (y.mapped ≡ 0 → of_range s.low s.high k ≡ there) → IsPart (seen k e x p n) y
       → Shifts y z (seen k e x p n) (seen k e (touched p x n).0 (touched p x n).1.place (touched p x n).1.noted)
       → Own own y z (seen k e x p n) (seen k e (touched p x n).0 (touched p x n).1.place (touched p x n).1.noted)
       → Touches p → IsSound there z
@@ -575,7 +586,8 @@ module _ (s : Settings) (some : 1 ≤ s.shards) (k : PortKey) (e : Endpoint) (th
   touch_sound GivesBackFreed (Dropped d) n v at is fits range part shift owns touches =
       absurd (wrong_kind s some GivesBackFreed (Dropped d) n v at fits tt)
   touch_sound GivesBackFreed (Free pool) n v at is fits range part shift owns touches = give_by n pool GivesBackFreed
-      (refl, refl, refl, refl) DrawsWord n tt (rw (fits.1, fits.2) range) (same_port k n.freed) refl part shift owns
+      (refl, refl, refl, refl) DrawsWord n tt (in_range s.low s.high pool (sym fits.1) (sym fits.2) range)
+      (same_port k n.freed) refl part shift owns
   touch_sound GivesBackFreed (Mapped es) n v at is fits range part shift owns touches =
       absurd (wrong_kind s some GivesBackFreed (Mapped es) n v at fits tt)
   touch_sound GivesBackFreed (Taken bs) n v at is fits range part shift owns touches =
@@ -619,7 +631,8 @@ module _ (s : Settings) (some : 1 ≤ s.shards) (k : PortKey) (e : Endpoint) (th
       absurd (wrong_kind s some GivesBackLost (Dropped d) n v at fits tt)
   touch_sound GivesBackLost (Free pool) n v at is fits range part shift owns touches =
       give_by n pool GivesBackLost (refl, refl, refl, refl) (mapped n n.class).place (mapped n n.class).noted
-      (mapped_none n n.class) (rw (fits.1, fits.2) range) (same_port k n.freed) refl part shift owns
+      (mapped_none n n.class) (in_range s.low s.high pool (sym fits.1) (sym fits.2) range) (same_port k n.freed) refl
+      part shift owns
   touch_sound GivesBackLost (Mapped es) n v at is fits range part shift owns touches =
       absurd (wrong_kind s some GivesBackLost (Mapped es) n v at fits tt)
   touch_sound GivesBackLost (Taken bs) n v at is fits range part shift owns touches =
@@ -637,3 +650,4 @@ module _ (s : Settings) (some : 1 ≤ s.shards) (k : PortKey) (e : Endpoint) (th
       absurd (wrong_kind s some CountsDrop (Taken bs) n v at fits tt)
   touch_sound SendsOut x n v at is fits range part shift owns touches = absurd touches
   touch_sound Ends x n v at is fits range part shift owns touches = absurd touches
+  touch_sound FindsPort x n v at is fits range part shift owns touches = absurd touches

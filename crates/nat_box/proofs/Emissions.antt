@@ -7,8 +7,6 @@ use Rattle.entry_order.proofs.Order.{is_or}
 use Rattle.packet_headers.specs.declared.flow.Flow.{Flow}
 use Rattle.packet_headers.specs.declared.flow.NotFlow.{NotFlow}
 use Rattle.packet_headers.specs.Fields.{AreBytes}
-use Rattle.packet_headers.specs.View.{viewed, flow_of, failures}
-use Rattle.packet_headers.proofs.FirstFailure.{pass_from_ok}
 use Rattle.plain_machine.specs.declared.local.Move.TheVariants.{Access, Read, Clock, Draw, Emit}
 use Rattle.plain_machine.specs.Machine.{Hand, Effect, Takes, Touches, Looks, HearsClock, HearsDraw, Sends}
 use Rattle.plain_machine.specs.Machine.{Ends as EndsIt}
@@ -31,9 +29,9 @@ use Rattle.nat_box.specs.declared.place.Place.{Place}
 use Rattle.nat_box.specs.declared.place.Place.TheVariants.{HearsTime, FindsMapping, UnbindsFreed, GivesBackFreed}
 use Rattle.nat_box.specs.declared.place.Place.TheVariants.{DrawsWord, ReservesPort, BindsPort, FindsOrBinds}
 use Rattle.nat_box.specs.declared.place.Place.TheVariants.{UnbindsLost, GivesBackLost, FindsEndpoint, AsksIfLives}
-use Rattle.nat_box.specs.declared.place.Place.TheVariants.{CountsDrop, SendsOut, Ends}
+use Rattle.nat_box.specs.declared.place.Place.TheVariants.{CountsDrop, SendsOut, Ends, FindsPort}
 use Rattle.nat_box.specs.declared.place.Class.{Class}
-use Rattle.nat_box.specs.declared.place.Class.TheVariants.{Outbound, Hairpin, Inbound}
+use Rattle.nat_box.specs.declared.place.Class.TheVariants.{Outbound, Hairpin, Inbound, OutboundError}
 use Rattle.nat_box.specs.declared.place.Noted.{Noted}
 use Rattle.nat_box.specs.declared.value.NatValue.{NatValue}
 use Rattle.nat_box.specs.declared.value.NatValue.TheVariants.{Dropped, Free, Mapped, Taken}
@@ -41,7 +39,16 @@ use Rattle.flow_boxes.specs.Flows.{endpoint, source_of, HaveBytes}
 use Rattle.nat_box.specs.Places.{place_numbered, noted, source_key, dest_key}
 use Rattle.nat_box.specs.declared.place.Goes.{Goes}
 use Rattle.flow_boxes.specs.Drops.{reason_of}
-use Rattle.nat_box.specs.Nat.{Settings, goes, next_move, class_of_flow, noted_flow, nothing_noted, begun_as}
+use Rattle.nat_box.specs.Nat.{Settings, goes, next_move, class_of_flow, class_of_error, flow_of_error, seen_by}
+use Rattle.nat_box.specs.Nat.{flow_in, class_in, flow_seen, class_seen, noted_flow, nothing_noted, begun_by}
+use Rattle.nat_box.specs.Nat.{used_slot, used_port, after_port, error_out, bytes_out, MayMap}
+use Rattle.icmp_errors.specs.declared.error.IcmpError.{IcmpError}
+use Rattle.nat_box.specs.declared.seeing.Seen.{Seen}
+use Rattle.nat_box.specs.declared.seeing.Seen.TheVariants.{OfFlow, OfError, OfNeither}
+use Rattle.nat_box.proofs.SeenAs.{flow_whole, error_not_outbound, error_not_hairpin, flow_not_error, same_flow}
+use Rattle.nat_box.proofs.UsedPorts.{used_is, used_lives}
+use Rattle.nat_tables.proofs.Keeping.{may_slot}
+use Rattle.nat_tables.specs.Forwards.{AreMappings}
 use Rattle.nat_box.specs.Nat.{begun, mapped, after_find, after_reserve, after_bind, touched, after_endpoint, looked_by}
 use Rattle.nat_box.specs.Nat.{looked, after_time, told, frame_out, local_at, nat_meaning, MayBind, Fits, segment_told}
 use Rattle.nat_box.specs.Nat.{followed_by, followed}
@@ -50,7 +57,7 @@ use Rattle.nat_box.specs.Lawful.{AreSettings, var_of, touches_it, reads_it, belo
 use Rattle.nat_box.specs.Emissions.{Trail, no_trail, left_forward, trail_by, trail_of, WasMapped, Lived}
 use Rattle.nat_box.specs.Emissions.{IsTranslated, IsTranslationOf, EmissionsTranslate}
 use Rattle.nat_box.proofs.Noting.{touched_noted}
-use Rattle.flow_boxes.proofs.Fitting.{IsWhole, whole, slot_refreshed, slot_bound}
+use Rattle.flow_boxes.proofs.Fitting.{IsWhole, slot_refreshed, slot_bound}
 use Rattle.flow_boxes.proofs.HeldInputs.{IsHeld, move_holds, run_holds}
 use Rattle.nat_box.proofs.Making.{goes_on, comes_to, Made, made}
 use Rattle.nat_box.proofs.Following.{was_followed}
@@ -61,8 +68,8 @@ use Rattle.nat_box.proofs.Following.{was_followed}
 
 record IsBase (s : Settings) (p : Packet) (n : Noted) : Type 0 where
   flow : Flow
-  seen : viewed p.bytes p.original ≡ Ok flow
-  class : class_of_flow s flow.source flow.dest ≡ Some n.class
+  seen : flow_seen s p ≡ Ok flow
+  class : class_seen s p ≡ Some n.class
   source : n.source ≡ source_of flow
   dest_port : n.dest_port ≡ flow.dest_port
 
@@ -70,21 +77,31 @@ abbrev pub IsOutward : Class → Type 0
 IsOutward Outbound = Unit {0}
 IsOutward Hairpin = Unit {0}
 IsOutward Inbound = ⊥
+IsOutward OutboundError = ⊥
 
 abbrev pub IsInward : Class → Type 0
 IsInward Outbound = ⊥
 IsInward Hairpin = Unit {0}
 IsInward Inbound = Unit {0}
+IsInward OutboundError = ⊥
 
 abbrev pub IfOutward : Class → Type 0 → Type 0
 IfOutward Outbound X = X
 IfOutward Hairpin X = X
 IfOutward Inbound X = Unit {0}
+IfOutward OutboundError X = Unit {0}
 
 abbrev IfInward : Class → Type 0 → Type 0
 IfInward Outbound X = Unit {0}
 IfInward Hairpin X = X
 IfInward Inbound X = X
+IfInward OutboundError X = Unit {0}
+
+abbrev IfError : Class → Type 0 → Type 0
+IfError Outbound X = Unit {0}
+IfError Hairpin X = Unit {0}
+IfError Inbound X = Unit {0}
+IfError OutboundError X = X
 
 abbrev KnownAt : Settings → Trail → Packet → Place → Noted → Type 0
 KnownAt s r p HearsTime n = IsBase s p n
@@ -107,8 +124,10 @@ KnownAt s r p SendsOut n =
     IsBase s p n
     × IfOutward n.class (WasMapped r.forward n.source n.port)
     × IfInward n.class (Lived r n.target n.dest_port)
+    × IfError n.class (Lived r n.source n.port)
 KnownAt s r p CountsDrop n = Unit {0}
 KnownAt s r p Ends n = Unit {0}
+KnownAt s r p FindsPort n = IsBase s p n × (r.clock ≡ Some n.time) × (n.class ≡ OutboundError)
 
 abbrev Known : Settings → Trail → Option Hand → Type 0
 Known s r None = Unit {0}
@@ -143,6 +162,7 @@ module _ (s : Settings) (p : Packet) where
     base,
     subst (λ (c : Class). IfOutward c (WasMapped r.forward n.source n.port)) (sym is) m,
     subst (λ (c : Class). IfInward c (Lived r n.target n.dest_port)) (sym is) tt,
+    subst (λ (c : Class). IfError c (Lived r n.source n.port)) (sym is) tt,
   )
   mapped_known r n Hairpin is base clock out m = (
     base,
@@ -151,6 +171,7 @@ module _ (s : Settings) (p : Packet) where
     subst (λ (c : Class). IfOutward c (WasMapped r.forward n.source n.port)) (sym is) m,
   )
   mapped_known r n Inbound is base clock out m = absurd (subst IsOutward is out)
+  mapped_known r n OutboundError is base clock out m = absurd (subst IsOutward is out)
 
   module _ (r : Trail) (n : Noted) (es : Forwards) (base : IsBase s p n) (clock : r.clock ≡ Some n.time)
       (out : IsOutward n.class) where
@@ -198,6 +219,7 @@ module _ (s : Settings) (p : Packet) where
   outward_by Outbound X Y f k = f k
   outward_by Hairpin X Y f k = f k
   outward_by Inbound X Y f k = tt
+  outward_by OutboundError X Y f k = tt
 
   -- another table in which each endpoint has the port that it had
   with_forward : (f g : Option Forwards) (read : Option NatValue) (clock : Option ℕ)
@@ -231,8 +253,10 @@ module _ (s : Settings) (p : Packet) where
     k.0,
     outward_by n.class (WasMapped f n.source n.port) (WasMapped g n.source n.port) (each n.source n.port) k.1,
     k.2,
+    k.3,
   )
   with_forward f g read clock each Ends n k = k
+  with_forward f g read clock each FindsPort n k = k
 
   followed_known : (r : Trail) (n : Noted) (x : NatValue) (place : Place) (m : Noted)
       → KnownAt s (after_touch x r) p place m → KnownAt s (after_touch (followed s n x) r) p place m
@@ -287,6 +311,7 @@ module _ (s : Settings) (p : Packet) where
   touch_known r CountsDrop (Taken bs) n v e k = tt
   touch_known r SendsOut x n v e k = absurd (cc)
   touch_known r Ends x n v e k = absurd (cc)
+  touch_known r FindsPort x n v e k = absurd (cc)
 
   -- a read
   abbrev after_look : NatValue → Trail → Trail
@@ -306,6 +331,13 @@ module _ (s : Settings) (p : Packet) where
   given_inward Outbound X x = tt
   given_inward Hairpin X x = x
   given_inward Inbound X x = x
+  given_inward OutboundError X x = tt
+
+  inward_is_no_error : (c : Class) (X : Type 0) → IsInward c → IfError c X
+  inward_is_no_error Outbound X inward = tt
+  inward_is_no_error Hairpin X inward = tt
+  inward_is_no_error Inbound X inward = tt
+  inward_is_no_error OutboundError X inward = absurd inward
 
   lives_known : (r : Trail) (es : Forwards) (n : Noted) (b : Bool) → lives n.target n.dest_port n.time es ≡ b
       → KnownAt s r p AsksIfLives n
@@ -314,8 +346,23 @@ module _ (s : Settings) (p : Packet) where
     k.0,
     k.3,
     given_inward n.class (Lived (after_look (Mapped es) r) n.target n.dest_port) (es, n.time, refl, k.1, is),
+    inward_is_no_error n.class (Lived (after_look (Mapped es) r) n.source n.port) k.2,
   )
   lives_known r es n false is k = tt
+
+  port_known : (r : Trail) (es : Forwards) (n : Noted) (o : Option ℕ) → used_port n.source n.time es ≡ o
+      → KnownAt s r p FindsPort n
+      → (let g = after_port n o in KnownAt s (after_look (Mapped es) r) p g.place g.noted)
+  port_known r es n (Some port) is k =
+      let m : Noted = record n { port = port } in
+      let lived : Lived (after_look (Mapped es) r) n.source port =
+      (es, n.time, refl, k.1, used_lives n.source n.time port es is) in (
+        base_on n m refl refl refl k.0,
+        subst (λ (c : Class). IfOutward c (WasMapped r.forward m.source m.port)) (sym k.2) tt,
+        subst (λ (c : Class). IfInward c (Lived (after_look (Mapped es) r) m.target m.dest_port)) (sym k.2) tt,
+        subst (λ (c : Class). IfError c (Lived (after_look (Mapped es) r) m.source m.port)) (sym k.2) lived,
+      )
+  port_known r es n None is k = tt
 
   look_known : (r : Trail) (place : Place) (x : NatValue) (n : Noted) (v : ℕ) → next_move s place n ≡ Read v
       → KnownAt s r p place n → KnownAt s (after_look x r) p (looked place x n).place (looked place x n).noted
@@ -340,6 +387,10 @@ module _ (s : Settings) (p : Packet) where
   look_known r CountsDrop x n v e k = absurd (cc)
   look_known r SendsOut x n v e k = absurd (cc)
   look_known r Ends x n v e k = absurd (cc)
+  look_known r FindsPort (Dropped d) n v e k = tt
+  look_known r FindsPort (Free pool) n v e k = tt
+  look_known r FindsPort (Mapped es) n v e k = port_known r es n (used_port n.source n.time es) refl k
+  look_known r FindsPort (Taken bs) n v e k = tt
 
   abbrev after_clock : ℕ → Trail → Trail
   after_clock a r = record { forward = r.forward; read = r.read; clock = Some a }
@@ -354,6 +405,7 @@ module _ (s : Settings) (p : Packet) where
     subst IsInward (sym is) tt,
     subst (λ (c : Class). IfOutward c (WasMapped r.forward n.source n.port)) (sym is) tt,
   )
+  time_known r a n OutboundError is base now = (base, ap Some (sym now), is)
 
   clock_known : (r : Trail) (place : Place) (a : ℕ) (n : Noted) → next_move s place n ≡ Clock → KnownAt s r p place n
       → KnownAt s (after_clock a r) p (told place a n).place (told place a n).noted
@@ -373,6 +425,7 @@ module _ (s : Settings) (p : Packet) where
   clock_known r CountsDrop a n e k = absurd (cc)
   clock_known r SendsOut a n e k = absurd (cc)
   clock_known r Ends a n e k = absurd (cc)
+  clock_known r FindsPort a n e k = absurd (cc)
 
   draw_known : (r : Trail) (place : Place) (a : ℕ) (n : Noted) → next_move s place n ≡ Draw → KnownAt s r p place n
       → KnownAt s r p (told place a n).place (told place a n).noted
@@ -391,6 +444,7 @@ module _ (s : Settings) (p : Packet) where
   draw_known r CountsDrop a n e k = absurd (cc)
   draw_known r SendsOut a n e k = absurd (cc)
   draw_known r Ends a n e k = absurd (cc)
+  draw_known r FindsPort a n e k = absurd (cc)
 
 -- Numbers fit
 
@@ -412,6 +466,7 @@ told_noted HearsTime a n is = timed (record n { time = a }) n.class (record {
     timed m Outbound is = is
     timed m Hairpin is = is
     timed m Inbound is = is
+    timed m OutboundError is = is
 told_noted FindsMapping a n is = is
 told_noted UnbindsFreed a n is = is
 told_noted GivesBackFreed a n is = is
@@ -437,6 +492,7 @@ told_noted AsksIfLives a n is = is
 told_noted CountsDrop a n is = is
 told_noted SendsOut a n is = is
 told_noted Ends a n is = is
+told_noted FindsPort a n is = is
 
 pub worded : (n : Noted) (x : ℕ) → IsNoted n → IsNoted (record n { word = x })
 worded n x is = record {
@@ -467,6 +523,20 @@ targeted n key address port is = record {
   target_port = port;
 }
 
+ported : (n : Noted) (port : ℕ) → port < 2 ^ 16 → IsNoted n → IsNoted (record n { port = port })
+ported n port low is = record {
+  protocol = is.protocol;
+  address = is.address;
+  source_port = is.source_port;
+  dest_port = is.dest_port;
+  port = low;
+  freed_protocol = is.freed_protocol;
+  freed_port = is.freed_port;
+  target_protocol = is.target_protocol;
+  target_address = is.target_address;
+  target_port = is.target_port;
+}
+
 -- an endpoint that a reverse table has
 small_endpoint : (s : Settings) (v : ℕ) (port : PortKey) (bs : Reverses) (key : Endpoint)
     → endpoint_of port bs ≡ Some key → AreBound (MayBind s v) bs → (key.address < 2 ^ 32) × (key.port < 2 ^ 16)
@@ -490,6 +560,22 @@ endpoint_noted n None is small = worded n 7 is
 lives_noted : (n : Noted) (b : Bool) → IsNoted n → IsNoted (looked_by n b).noted
 lives_noted n true is = is
 lives_noted n false is = worded n 7 is
+
+pub port_noted : (n : Noted) (o : Option ℕ) → IsNoted n → ((port : ℕ) → o ≡ Some port → port < 2 ^ 16)
+    → IsNoted (after_port n o).noted
+port_noted n (Some port) is small = ported n port (small port refl) is
+port_noted n None is small = worded n 7 is
+
+-- the port of a mapping of a forward table
+pub small_used : (s : Settings) (v : ℕ) (key : Endpoint) (now : ℕ) (es : Forwards) → AreMappings (MayMap s v) es
+    → (port : ℕ) → used_port key now es ≡ Some port → port < 2 ^ 16
+small_used s v key now es all port = by (slot_of key es) refl
+  where
+    by : (o : Option Slot) → slot_of key es ≡ o → used_slot key now o ≡ Some port → port < 2 ^ 16
+    by None q e = absurd (cc)
+    by (Some slot) q e =
+        let may = may_slot (MayMap s v) key slot es q all in
+        subst (λ (n : ℕ). n < 2 ^ 16) (used_is now key slot port e).1 may.2
 
 looked_noted : (s : Settings) (place : Place) (x : NatValue) (n : Noted) (v : ℕ) → IsNoted n → Fits s v x
     → IsNoted (looked place x n).noted
@@ -515,6 +601,11 @@ looked_noted s AsksIfLives (Taken bs) n v is fits = is
 looked_noted s CountsDrop x n v is fits = is
 looked_noted s SendsOut x n v is fits = is
 looked_noted s Ends x n v is fits = is
+looked_noted s FindsPort (Dropped d) n v is fits = is
+looked_noted s FindsPort (Free pool) n v is fits = is
+looked_noted s FindsPort (Mapped es) n v is fits =
+    port_noted n (used_port n.source n.time es) is (small_used s v n.source n.time es fits.2)
+looked_noted s FindsPort (Taken bs) n v is fits = is
 
 -- The beginning
 
@@ -547,27 +638,22 @@ nothing_is_noted reason = record {
   target_port = omega arith;
 }
 
-begun_known : (s : Settings) (p : Packet) (seen : Result Flow NotFlow) → AreBytes p.bytes
-    → viewed p.bytes p.original ≡ seen
-    → Known s no_trail (Some (record { packet = p; place = local_at (begun s seen) }))
-begun_known s p (Err answer) bytes is =
-    known_on s no_trail (record { packet = p; place = local_at (begun s (Err answer)) }) (begun s (Err answer))
-    (nothing_is_noted (reason_of answer)) tt
-begun_known s p (Ok flow) bytes is =
-    let same : flow_of p.bytes ≡ flow = (pass_from_ok (failures p.bytes p.original) (flow_of p.bytes) flow is).1 in
-    let w : IsWhole flow = subst IsWhole same (whole p.bytes bytes) in
-    by (class_of_flow s flow.source flow.dest) refl w
+begun_known : (s : Settings) (p : Packet) → AreBytes p.bytes
+    → Known s no_trail (Some (record { packet = p; place = local_at (begun s (seen_by s p)) }))
+begun_known s p bytes = by (flow_seen s p) (class_seen s p) refl refl
   where
-    segment : Segment
-    segment = segment_told s.closing flow.flags
-
-    by : (o : Option Class) → class_of_flow s flow.source flow.dest ≡ o → IsWhole flow
-        → Known s no_trail (Some (record { packet = p; place = local_at (begun_as segment flow o) }))
-    by None q w = known_on s no_trail (record { packet = p; place = local_at (begun_as segment flow None) })
-        (begun_as segment flow None) (nothing_is_noted 9) tt
-    by (Some class) q w =
-        known_on s no_trail (record { packet = p; place = local_at (begun_as segment flow (Some class)) })
-        (begun_as segment flow (Some class)) (begun_noted segment flow class w)
+    by : (r : Result Flow NotFlow) (o : Option Class) → flow_seen s p ≡ r → class_seen s p ≡ o
+        → Known s no_trail (Some (record { packet = p; place = local_at (begun_by s r o) }))
+    by (Err answer) o is q =
+        known_on s no_trail (record { packet = p; place = local_at (begun_by s (Err answer) o) })
+        (begun_by s (Err answer) o) (nothing_is_noted (reason_of answer)) tt
+    by (Ok flow) None is q =
+        known_on s no_trail (record { packet = p; place = local_at (begun_by s (Ok flow) None) })
+        (begun_by s (Ok flow) None) (nothing_is_noted 9) tt
+    by (Ok flow) (Some class) is q =
+        known_on s no_trail (record { packet = p; place = local_at (begun_by s (Ok flow) (Some class)) })
+        (begun_by s (Ok flow) (Some class))
+        (begun_noted (segment_told s.closing flow.flags) flow class (flow_whole s p flow is bytes))
         (record { flow = flow; seen = is; class = q; source = refl; dest_port = refl })
 
 -- Each move
@@ -579,7 +665,7 @@ made_known : (s : Settings) (is : AreSettings s) (packets : List Packet) (t : �
     → Known s r before → Made s packets taken (value_after (nat_meaning s) earlier) before after d
     → Known s (trail_by earlier s (act_of t earlier taken_then d) r) after
 made_known s is packets t earlier taken tn before after Takes bytes fits r k m =
-    subst (Known s no_trail) (sym m.2) (begun_known s m.0 (viewed m.0.bytes m.0.original) (bytes taken m.0 m.1) refl)
+    subst (Known s no_trail) (sym m.2) (begun_known s m.0 (bytes taken m.0 m.1))
 made_known s is packets t earlier taken tn before after (Touches v left) bytes fits r k m =
     let h : Hand = m.0 in
     let place : Place = place_numbered h.place.at in
@@ -665,16 +751,17 @@ at_send s AsksIfLives n e = absurd (cc)
 at_send s CountsDrop n e = absurd (cc)
 at_send s SendsOut n e = refl
 at_send s Ends n e = absurd (cc)
+at_send s FindsPort n e = absurd (cc)
 
 translated : (s : Settings) (r : Trail) (bytes : List ℕ) (flow : Flow) (n : Noted) (c : Class)
-    → n.source ≡ source_of flow → n.dest_port ≡ flow.dest_port → n.target.protocol ≡ n.source.protocol
-    → IfOutward c (WasMapped r.forward n.source n.port) → IfInward c (Lived r n.target n.dest_port)
-    → IsTranslated s bytes flow r (frame_out s c bytes flow n) c
-translated s r bytes flow n Outbound source dest tp m l =
+    → class_of_flow s flow.source flow.dest ≡ Some c → n.source ≡ source_of flow → n.dest_port ≡ flow.dest_port
+    → n.target.protocol ≡ n.source.protocol → IfOutward c (WasMapped r.forward n.source n.port)
+    → IfInward c (Lived r n.target n.dest_port) → IsTranslated s bytes (OfFlow flow) r (frame_out s c bytes flow n) c
+translated s r bytes flow n Outbound class source dest tp m l =
     (n.port, subst (λ (k : Endpoint). WasMapped r.forward k n.port) source m, refl)
-translated s r bytes flow n Inbound source dest tp m l =
+translated s r bytes flow n Inbound class source dest tp m l =
     (n.target, tp ∙ ap (λ (k : Endpoint). k.protocol) source, subst (λ (d : ℕ). Lived r n.target d) dest l, refl)
-translated s r bytes flow n Hairpin source dest tp m l = (
+translated s r bytes flow n Hairpin class source dest tp m l = (
   n.port,
   n.target,
   subst (λ (k : Endpoint). WasMapped r.forward k n.port) source m,
@@ -682,6 +769,35 @@ translated s r bytes flow n Hairpin source dest tp m l = (
   subst (λ (d : ℕ). Lived r n.target d) dest l,
   refl,
 )
+translated s r bytes flow n OutboundError class source dest tp m l =
+    absurd (flow_not_error s flow.source flow.dest class)
+
+error_translated : (s : Settings) (r : Trail) (bytes : List ℕ) (error : IcmpError) (n : Noted) (c : Class)
+    → class_of_error s error ≡ Some c → n.source ≡ source_of (flow_of_error error)
+    → n.dest_port ≡ error.quoted_source_port → n.target.protocol ≡ n.source.protocol
+    → IfInward c (Lived r n.target n.dest_port) → IfError c (Lived r n.source n.port)
+    → IsTranslated s bytes (OfError error) r (error_out s c bytes error n) c
+error_translated s r bytes error n Outbound class source dest tp l u = absurd (error_not_outbound s error class)
+error_translated s r bytes error n Hairpin class source dest tp l u = absurd (error_not_hairpin s error class)
+error_translated s r bytes error n Inbound class source dest tp l u =
+    (n.target, tp ∙ ap (λ (k : Endpoint). k.protocol) source, subst (λ (d : ℕ). Lived r n.target d) dest l, refl)
+error_translated s r bytes error n OutboundError class source dest tp l u =
+    (n.port, subst (λ (k : Endpoint). Lived r k n.port) source u, refl)
+
+seen_translated : (s : Settings) (r : Trail) (bytes : List ℕ) (n : Noted) (flow : Flow) (seen : Seen)
+    → flow_in seen ≡ Ok flow → class_in s seen ≡ Some n.class → n.source ≡ source_of flow
+    → n.dest_port ≡ flow.dest_port → n.target.protocol ≡ n.source.protocol
+    → IfOutward n.class (WasMapped r.forward n.source n.port) → IfInward n.class (Lived r n.target n.dest_port)
+    → IfError n.class (Lived r n.source n.port) → IsTranslated s bytes seen r (bytes_out s bytes n seen) n.class
+seen_translated s r bytes n flow (OfFlow own) seen class source dest tp m l u =
+    let same : flow ≡ own = sym (same_flow (Ok own) own flow refl seen) in
+    translated s r bytes own n n.class class (source ∙ ap source_of same)
+    (dest ∙ ap (λ (f : Flow). f.dest_port) same) tp m l
+seen_translated s r bytes n flow (OfError error) seen class source dest tp m l u =
+    let same : flow ≡ flow_of_error error = sym (same_flow (Ok (flow_of_error error)) (flow_of_error error) flow refl seen) in
+    error_translated s r bytes error n n.class class (source ∙ ap source_of same)
+    (dest ∙ ap (λ (f : Flow). f.dest_port) same) tp l u
+seen_translated s r bytes n flow (OfNeither answer) seen class source dest tp m l u = absurd (cc)
 
 send_translates : (s : Settings) (r : Trail) (h : Hand) → comes_to s h Emit → Known s r (Some h)
     → IsTranslationOf s r ((nat_meaning s).out h.packet h.place) (Some h.packet)
@@ -689,10 +805,12 @@ send_translates s r h at k =
     let n : Noted = noted h.place in
     let known : KnownAt s r h.packet SendsOut n =
     subst (λ (q : Place). KnownAt s r h.packet q n) (at_send s (place_numbered h.place.at) n at) k in
-    let base : IsBase s h.packet n = known.0 in
-    let t : IsTranslated s h.packet.bytes base.flow r (frame_out s n.class h.packet.bytes base.flow n) n.class =
-    translated s r h.packet.bytes base.flow n n.class base.source base.dest_port refl known.1 known.2 in
-    (base.flow, n.class, base.seen, base.class, rw base.seen t)
+    let base : IsBase s h.packet n = known.0 in (
+      n.class,
+      base.class,
+      seen_translated s r h.packet.bytes n base.flow (seen_by s h.packet) base.seen base.class base.source
+          base.dest_port refl known.1 known.2 known.3,
+    )
 
 pub emissions_translate : EmissionsTranslate
 emissions_translate s threads inputs x earlier o is bytes h sent =

@@ -2,7 +2,11 @@ pub mod Effects
 pub mod Following
 pub mod Noting
 pub mod Moving
+pub mod StaticPlaces
+pub mod Starting
 pub mod Standing
 pub mod Sentences
 pub mod Making
+pub mod SeenAs
+pub mod UsedPorts
 pub mod Emissions

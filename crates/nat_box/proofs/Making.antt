@@ -2,14 +2,14 @@
 use Rattle.std.proofs.Common.{◌≡◌, ℕ, ◌+◌, List, refl, subst, Option, Some, None}
 use Rattle.std.specs.Prelude.{slice_get}
 use Rattle.plain_text.specs.declared.packet.Packet.{Packet}
-use Rattle.packet_headers.specs.View.{viewed}
 use Rattle.plain_machine.specs.declared.local.Move.{Move}
 use Rattle.plain_machine.specs.declared.local.Move.TheVariants.{Access, Read, Clock, Draw, Emit, End}
 use Rattle.plain_machine.specs.Machine.{Hand, Thread, Effect, Takes, Touches, Looks, HearsClock, HearsDraw, Sends}
 use Rattle.plain_machine.specs.Machine.{Ends as EndsIt, Moves, holding, sent_packet, take_move, hand_move, held_move}
 use Rattle.nat_box.specs.Places.{place_numbered, noted}
 use Rattle.nat_box.specs.declared.place.Goes.{Goes}
-use Rattle.nat_box.specs.Nat.{Settings, goes, next_move, begun, touched, followed, looked, told, local_at, nat_meaning}
+use Rattle.nat_box.specs.Nat.{Settings, goes, next_move, seen_by, begun, touched, followed, looked, told, local_at}
+use Rattle.nat_box.specs.Nat.{nat_meaning}
 use Rattle.nat_box.specs.declared.place.Place.TheVariants.{Ends}
 use Rattle.nat_box.specs.declared.value.NatValue.{NatValue}
 
@@ -23,7 +23,7 @@ abbrev pub Made : Settings → List Packet → ℕ → (ℕ → NatValue) → Op
 Made s packets taken value before after Takes =
     (p : Packet)
     × (slice_get packets taken ≡ Some p)
-    × (after ≡ Some (record { packet = p; place = local_at (begun s (viewed p.bytes p.original)) }))
+    × (after ≡ Some (record { packet = p; place = local_at (begun s (seen_by s p)) }))
 Made s packets taken value before after (Touches v left) =
     (h : Hand) × (before ≡ Some h) × comes_to s h (Access v)
     × (left ≡ followed s (noted h.place) (touched (place_numbered h.place.at) (value v) (noted h.place)).0)

@@ -4,7 +4,6 @@ use Rattle.std.specs.Prelude.{slice_get}
 use Rattle.plain_text.specs.declared.packet.Packet.{Packet}
 use Rattle.packet_headers.specs.declared.flow.Flow.{Flow}
 use Rattle.packet_headers.specs.declared.flow.NotFlow.{NotFlow}
-use Rattle.packet_headers.specs.View.{viewed}
 use Rattle.std.specs.Prelude.{Result, Ok, Err}
 use Rattle.plain_machine.specs.declared.local.Move.{Move}
 use Rattle.plain_machine.specs.declared.local.Move.TheVariants.{Access, Read, Clock, Draw, Emit, End}
@@ -14,8 +13,10 @@ use Rattle.nat_tables.specs.Forwards.{lives}
 use Rattle.nat_tables.specs.Reverses.{endpoint_of}
 use Rattle.nat_box.specs.Places.{place_numbered, noted, dest_key}
 use Rattle.nat_box.specs.declared.place.Goes.{Goes}
-use Rattle.nat_box.specs.Nat.{Settings, goes, next_move, class_of_flow, begun_as, begun, touched, after_endpoint}
-use Rattle.nat_box.specs.Nat.{looked_by, looked, after_time, told, local_at, nat_meaning, followed, segment_told}
+use Rattle.nat_box.specs.Nat.{Settings, goes, next_move, seen_by, flow_in, class_in, begun_by, begun, touched}
+use Rattle.nat_box.specs.Nat.{after_endpoint, looked_by, used_port, after_port, looked, after_time, told, local_at}
+use Rattle.nat_box.specs.Nat.{nat_meaning, followed}
+use Rattle.nat_box.specs.declared.seeing.Seen.{Seen}
 use Rattle.nat_box.specs.Noting.{place_again}
 use Rattle.nat_box.proofs.Effects.{HoldsNone, Touches as IsTouching}
 use Rattle.nat_tables.specs.declared.entries.Endpoint.{Endpoint}
@@ -23,9 +24,9 @@ use Rattle.nat_box.specs.declared.place.Place.{Place}
 use Rattle.nat_box.specs.declared.place.Place.TheVariants.{HearsTime, FindsMapping, UnbindsFreed, GivesBackFreed}
 use Rattle.nat_box.specs.declared.place.Place.TheVariants.{DrawsWord, ReservesPort, BindsPort, FindsOrBinds}
 use Rattle.nat_box.specs.declared.place.Place.TheVariants.{UnbindsLost, GivesBackLost, FindsEndpoint, AsksIfLives}
-use Rattle.nat_box.specs.declared.place.Place.TheVariants.{CountsDrop, SendsOut, Ends}
+use Rattle.nat_box.specs.declared.place.Place.TheVariants.{CountsDrop, SendsOut, Ends, FindsPort}
 use Rattle.nat_box.specs.declared.place.Class.{Class}
-use Rattle.nat_box.specs.declared.place.Class.TheVariants.{Outbound, Hairpin, Inbound}
+use Rattle.nat_box.specs.declared.place.Class.TheVariants.{Outbound, Hairpin, Inbound, OutboundError}
 use Rattle.nat_box.specs.declared.place.Noted.{Noted}
 use Rattle.nat_box.specs.declared.value.NatValue.{NatValue}
 use Rattle.nat_box.specs.declared.value.NatValue.TheVariants.{Dropped, Free, Mapped, Taken}
@@ -38,18 +39,19 @@ HandNone (Some h) = HoldsNone (place_numbered h.place.at)
 none_at : (p : Packet) (g : Goes) → HoldsNone g.place → HandNone (Some (record { packet = p; place = local_at g }))
 none_at p g h = subst HoldsNone (sym (place_again g.place)) h
 
-begun_none : (s : Settings) (seen : Result Flow NotFlow) → HoldsNone (begun s seen).place
-begun_none s (Ok flow) = by (class_of_flow s flow.source flow.dest)
+begun_none : (s : Settings) (seen : Seen) → HoldsNone (begun s seen).place
+begun_none s seen = by (flow_in seen) (class_in s seen)
   where
-    by : (o : Option Class) → HoldsNone (begun_as (segment_told s.closing flow.flags) flow o).place
-    by (Some class) = tt
-    by None = tt
-begun_none s (Err answer) = tt
+    by : (r : Result Flow NotFlow) (o : Option Class) → HoldsNone (begun_by s r o).place
+    by (Ok flow) (Some class) = tt
+    by (Ok flow) None = tt
+    by (Err answer) o = tt
 
 time_none : (n : Noted) (c : Class) → HoldsNone (after_time n c).place
 time_none n Outbound = tt
 time_none n Hairpin = tt
 time_none n Inbound = tt
+time_none n OutboundError = tt
 
 clock_none : (s : Settings) (p : Place) (n : Noted) (a : ℕ) → next_move s p n ≡ Clock
     → HoldsNone p × HoldsNone (told p a n).place
@@ -68,6 +70,7 @@ clock_none s AsksIfLives n a e = absurd (cc)
 clock_none s CountsDrop n a e = absurd (cc)
 clock_none s SendsOut n a e = absurd (cc)
 clock_none s Ends n a e = absurd (cc)
+clock_none s FindsPort n a e = absurd (cc)
 
 draw_none : (s : Settings) (p : Place) (n : Noted) (a : ℕ) → next_move s p n ≡ Draw
     → HoldsNone p × HoldsNone (told p a n).place
@@ -86,6 +89,7 @@ draw_none s AsksIfLives n a e = absurd (cc)
 draw_none s CountsDrop n a e = absurd (cc)
 draw_none s SendsOut n a e = absurd (cc)
 draw_none s Ends n a e = absurd (cc)
+draw_none s FindsPort n a e = absurd (cc)
 
 emit_none : (s : Settings) (p : Place) (n : Noted) → next_move s p n ≡ Emit → HoldsNone p
 emit_none s HearsTime n e = absurd (cc)
@@ -103,6 +107,7 @@ emit_none s AsksIfLives n e = absurd (cc)
 emit_none s CountsDrop n e = absurd (cc)
 emit_none s SendsOut n e = tt
 emit_none s Ends n e = absurd (cc)
+emit_none s FindsPort n e = absurd (cc)
 
 end_none : (s : Settings) (p : Place) (n : Noted) → next_move s p n ≡ End → HoldsNone p
 end_none s HearsTime n e = absurd (cc)
@@ -120,6 +125,7 @@ end_none s AsksIfLives n e = absurd (cc)
 end_none s CountsDrop n e = absurd (cc)
 end_none s SendsOut n e = absurd (cc)
 end_none s Ends n e = tt
+end_none s FindsPort n e = absurd (cc)
 
 pub touching : (s : Settings) (p : Place) (n : Noted) (v : ℕ) → next_move s p n ≡ Access v → IsTouching p
 touching s HearsTime n v e = absurd (cc)
@@ -137,10 +143,15 @@ touching s AsksIfLives n v e = absurd (cc)
 touching s CountsDrop n v e = tt
 touching s SendsOut n v e = absurd (cc)
 touching s Ends n v e = absurd (cc)
+touching s FindsPort n v e = absurd (cc)
 
 endpoint_none : (n : Noted) (o : Option Endpoint) → HoldsNone (after_endpoint n o).place
 endpoint_none n (Some key) = tt
 endpoint_none n None = tt
+
+port_none : (n : Noted) (o : Option ℕ) → HoldsNone (after_port n o).place
+port_none n (Some port) = tt
+port_none n None = tt
 
 lives_none : (n : Noted) (b : Bool) → HoldsNone (looked_by n b).place
 lives_none n true = tt
@@ -169,6 +180,10 @@ look_none s AsksIfLives (Taken bs) n v e = (tt, tt)
 look_none s CountsDrop x n v e = absurd (cc)
 look_none s SendsOut x n v e = absurd (cc)
 look_none s Ends x n v e = absurd (cc)
+look_none s FindsPort (Dropped d) n v e = (tt, tt)
+look_none s FindsPort (Free pool) n v e = (tt, tt)
+look_none s FindsPort (Mapped es) n v e = (tt, port_none n (used_port n.source n.time es))
+look_none s FindsPort (Taken bs) n v e = (tt, tt)
 
 -- Of a touch: what it found, left and noted. Of each other move: that no port is out before it, and none after it.
 abbrev pub Outcome : Settings → (ℕ → NatValue) → Option Hand → Option Hand → Effect NatValue → Type 0
@@ -229,7 +244,7 @@ module _ (s : Settings) (packets : List Packet) (value : ℕ → NatValue) (take
   of_none None None e = absurd (cc)
   of_none None (Some p) e =
       along None (holding (taken + 1) p ((nat_meaning s).begin p)) Takes (cc) (cc)
-      (tt, none_at p (begun s (viewed p.bytes p.original)) (begun_none s (viewed p.bytes p.original)))
+      (tt, none_at p (begun s (seen_by s p)) (begun_none s (seen_by s p)))
 
   pub outcome : (hand : Option Hand) (a : Option ℕ)
       → held_move (nat_meaning s) packets value taken a hand ≡ Moves after d → Outcome s value hand after.hand d

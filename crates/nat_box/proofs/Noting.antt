@@ -18,9 +18,9 @@ use Rattle.nat_box.specs.declared.place.Place.{Place}
 use Rattle.nat_box.specs.declared.place.Place.TheVariants.{HearsTime, FindsMapping, UnbindsFreed, GivesBackFreed}
 use Rattle.nat_box.specs.declared.place.Place.TheVariants.{DrawsWord, ReservesPort, BindsPort, FindsOrBinds}
 use Rattle.nat_box.specs.declared.place.Place.TheVariants.{UnbindsLost, GivesBackLost, FindsEndpoint, AsksIfLives}
-use Rattle.nat_box.specs.declared.place.Place.TheVariants.{CountsDrop, SendsOut, Ends}
+use Rattle.nat_box.specs.declared.place.Place.TheVariants.{CountsDrop, SendsOut, Ends, FindsPort}
 use Rattle.nat_box.specs.declared.place.Class.{Class}
-use Rattle.nat_box.specs.declared.place.Class.TheVariants.{Outbound, Hairpin, Inbound}
+use Rattle.nat_box.specs.declared.place.Class.TheVariants.{Outbound, Hairpin, Inbound, OutboundError}
 use Rattle.nat_box.specs.declared.place.Noted.{Noted}
 use Rattle.nat_box.specs.declared.value.NatValue.{NatValue}
 use Rattle.nat_box.specs.declared.value.NatValue.TheVariants.{Dropped, Free, Mapped, Taken}
@@ -29,6 +29,7 @@ mapped_noted : (n : Noted) (c : Class) → IsNoted n → IsNoted (mapped n c).no
 mapped_noted n Outbound is = is
 mapped_noted n Hairpin is = is
 mapped_noted n Inbound is = is
+mapped_noted n OutboundError is = is
 
 with_port : (n : Noted) (p : ℕ) → p < 2 ^ 16 → IsNoted n → IsNoted (record n { port = p })
 with_port n p low is = record {
@@ -199,3 +200,4 @@ touched_noted s CountsDrop (Mapped es) n v is fits = is
 touched_noted s CountsDrop (Taken bs) n v is fits = is
 touched_noted s SendsOut x n v is fits = is
 touched_noted s Ends x n v is fits = is
+touched_noted s FindsPort x n v is fits = is

@@ -10,7 +10,7 @@ use Rattle.plain_machine.proofs.Bounds.{values_fit}
 use Rattle.nat_tables.specs.declared.entries.Endpoint.{Endpoint}
 use Rattle.nat_tables.specs.declared.entries.PortKey.{PortKey}
 use Rattle.nat_tables.specs.declared.slot.Slot.{Slot}
-use Rattle.nat_tables.specs.Ports.{one_if, of_range}
+use Rattle.nat_tables.specs.Ports.{one_if}
 use Rattle.nat_tables.specs.Keys.{same_endpoint, same_port}
 use Rattle.nat_tables.specs.Forwards.{Forwards, port_of, total, Misses, AreMappings}
 use Rattle.nat_tables.specs.Reverses.{Reverses, endpoint_of, total_bound, AreBound}
@@ -19,7 +19,7 @@ use Rattle.nat_box.specs.declared.place.Place.{Place}
 use Rattle.nat_box.specs.declared.place.Place.TheVariants.{HearsTime, FindsMapping, UnbindsFreed, GivesBackFreed}
 use Rattle.nat_box.specs.declared.place.Place.TheVariants.{DrawsWord, ReservesPort, BindsPort, FindsOrBinds}
 use Rattle.nat_box.specs.declared.place.Place.TheVariants.{UnbindsLost, GivesBackLost, FindsEndpoint, AsksIfLives}
-use Rattle.nat_box.specs.declared.place.Place.TheVariants.{CountsDrop, SendsOut, Ends}
+use Rattle.nat_box.specs.declared.place.Place.TheVariants.{CountsDrop, SendsOut, Ends, FindsPort}
 use Rattle.nat_box.specs.declared.place.Noted.{Noted}
 use Rattle.nat_box.specs.declared.value.NatValue.{NatValue}
 use Rattle.nat_box.specs.declared.value.NatValue.TheVariants.{Dropped, Free, Mapped, Taken}
@@ -27,12 +27,12 @@ use Rattle.nat_box.specs.Places.{place_numbered, noted, source_key}
 use Rattle.nat_box.specs.Nat.{Settings, forward_table, reverse_table, nat_meaning, MayMap, MayBind, Fits}
 use Rattle.nat_box.specs.Lawful.{AreSettings, nat_lawful}
 use Rattle.nat_box.specs.PortStanding.{maps, maps_for, mapped_at, binds, binds_for, taken_at, queued, queued_for, loose}
-use Rattle.nat_box.specs.PortStanding.{in_values, in_hand, in_hands, tally_of, IsSound}
+use Rattle.nat_box.specs.PortStanding.{in_values, in_hand, in_hands, tally_of, IsSound, places_of}
 use Rattle.nat_box.specs.Sentences.{Has, mappings_in, bound_in, IsMapping, HaveReverse, HaveOneEndpoint, HaveOneMapping}
 use Rattle.nat_box.specs.Sentences.{IsBetween, Belong, EntriesStand}
 use Rattle.flow_boxes.proofs.Fitting.{same_self}
 use Rattle.flow_boxes.proofs.Summing.{term_of_sum}
-use Rattle.nat_box.proofs.Effects.{of_range_one}
+use Rattle.nat_box.proofs.StaticPlaces.{places_one}
 use Rattle.nat_box.proofs.Standing.{for_below, ports_stand}
 
 same_port_self : (k : PortKey) → same_port k k ≡ true
@@ -165,6 +165,7 @@ queued_at k AsksIfLives n some = absurd (omega arith)
 queued_at k CountsDrop n some = absurd (omega arith)
 queued_at k SendsOut n some = absurd (omega arith)
 queued_at k Ends n some = absurd (omega arith)
+queued_at k FindsPort n some = absurd (omega arith)
 
 loose_at : (k : PortKey) (p : Place) (n : Noted) → 1 ≤ loose k p n
     → ((p ≡ UnbindsFreed) ⊎ (p ≡ UnbindsLost)) × (k ≡ n.freed)
@@ -183,6 +184,7 @@ loose_at k AsksIfLives n some = absurd (omega arith)
 loose_at k CountsDrop n some = absurd (omega arith)
 loose_at k SendsOut n some = absurd (omega arith)
 loose_at k Ends n some = absurd (omega arith)
+loose_at k FindsPort n some = absurd (omega arith)
 
 between_queued : (k : PortKey) (h : Option Hand) → 1 ≤ in_hand (queued k) h
     → (g : Hand) × (h ≡ Some g) × (place_numbered g.place.at ≡ FindsOrBinds) × (k ≡ source_key (noted g.place))
@@ -196,7 +198,7 @@ between_loose k key (Some g) some =
     let q = loose_at k (place_numbered g.place.at) (noted g.place) some in inr (q.0, sym q.1)
 
 module _ (s : Settings) (is : AreSettings s) (threads : ℕ) (value : ℕ → NatValue) (thread : ℕ → Thread)
-    (sound : (k : PortKey) (e : Endpoint) → IsSound (of_range s.low s.high k) (tally_of s threads k e value thread))
+    (sound : (k : PortKey) (e : Endpoint) → IsSound (places_of s k) (tally_of s threads k e value thread))
     (fits : (v : ℕ) → v < 2 + 2 * s.shards → Fits s v (value v)) where
   -- a port that a forward entry or a packet before its find-or-bind has, for an endpoint
   named : (k : PortKey) (e : Endpoint)
@@ -204,7 +206,7 @@ module _ (s : Settings) (is : AreSettings s) (threads : ℕ) (value : ℕ → Na
       → endpoint_of k (bound_in (value (reverse_table s k))) ≡ Some e
   named k e some =
       let y = sound k e in
-      let one = of_range_one s.low s.high k in
+      let one = places_one s k in
       let a : taken_at (binds k) (value (reverse_table s k))
       ≡ total_bound (binds k) (bound_in (value (reverse_table s k))) = taken_is (binds k) (value (reverse_table s k)) in
       let b : taken_at (binds_for k e) (value (reverse_table s k))
@@ -272,7 +274,7 @@ module _ (s : Settings) (is : AreSettings s) (threads : ℕ) (value : ℕ → Na
       subst (λ (u : ℕ). Has (bound_in (value u)) (port, key)) at has in
       let bs : Reverses = bound_in (value (reverse_table s port)) in
       let y = sound port key in
-      let one = of_range_one s.low s.high port in
+      let one = places_one s port in
       let a : taken_at (binds port) (value (reverse_table s port)) ≡ total_bound (binds port) bs =
       taken_is (binds port) (value (reverse_table s port)) in
       let b : binds port port key ≤ total_bound (binds port) bs = term_of_bound (binds port) bs (port, key) here in

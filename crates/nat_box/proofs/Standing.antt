@@ -12,15 +12,14 @@ use Rattle.plain_machine.proofs.Histories.{not_eq, is_eq}
 use Rattle.plain_machine.proofs.Bounds.{values_fit}
 use Rattle.nat_tables.specs.declared.entries.Endpoint.{Endpoint}
 use Rattle.nat_tables.specs.declared.entries.PortKey.{PortKey}
-use Rattle.nat_tables.specs.Ports.{one_if, of_range}
+use Rattle.nat_tables.specs.Ports.{one_if, has_port}
 use Rattle.nat_tables.specs.Keys.{same_endpoint, same_port, port_key}
 use Rattle.nat_tables.proofs.Counting.{total_below}
-use Rattle.nat_tables.proofs.Pooling.{free_full}
 use Rattle.nat_box.specs.declared.place.Place.{Place}
 use Rattle.nat_box.specs.declared.place.Place.TheVariants.{HearsTime, FindsMapping, UnbindsFreed, GivesBackFreed}
 use Rattle.nat_box.specs.declared.place.Place.TheVariants.{DrawsWord, ReservesPort, BindsPort, FindsOrBinds}
 use Rattle.nat_box.specs.declared.place.Place.TheVariants.{UnbindsLost, GivesBackLost, FindsEndpoint, AsksIfLives}
-use Rattle.nat_box.specs.declared.place.Place.TheVariants.{CountsDrop, SendsOut, Ends as AtEnd}
+use Rattle.nat_box.specs.declared.place.Place.TheVariants.{CountsDrop, SendsOut, Ends as AtEnd, FindsPort}
 use Rattle.nat_box.specs.declared.place.Noted.{Noted}
 use Rattle.nat_box.specs.declared.value.NatValue.{NatValue}
 use Rattle.nat_box.specs.declared.value.NatValue.TheVariants.{Dropped, Free, Mapped, Taken}
@@ -31,9 +30,13 @@ use Rattle.nat_box.specs.Noting.{place_again, IsNoted, is_noted, noted_again}
 use Rattle.nat_box.specs.Lawful.{AreSettings, var_of, touches_it, below_all, nat_lawful}
 use Rattle.nat_box.specs.PortStanding.{free_at, maps, maps_for, mapped_at, binds, binds_for, taken_at, bare, queued}
 use Rattle.nat_box.specs.PortStanding.{queued_for, loose, in_values, in_hand, in_hands, Tally, tally_of, IsSound}
-use Rattle.nat_box.specs.PortStanding.{PortsStand}
-use Rattle.flow_boxes.proofs.Summing.{one_changes, sum_of_none, term_of_sum, sums_below, one_term}
-use Rattle.nat_box.proofs.Effects.{holds_none, seen, Shifts, IsPart, IsUnder, Own, of_range_one, touch_sound}
+use Rattle.nat_box.specs.PortStanding.{places_of, PortsStand}
+use Rattle.nat_box.specs.Statics.{kept, outside_ports}
+use Rattle.nat_box.specs.StaticLaws.{kept_apart}
+use Rattle.nat_box.proofs.StaticPlaces.{places_one, range_left, fresh_mapped, fresh_taken, ports_once}
+use Rattle.nat_box.proofs.StaticPlaces.{fresh_free}
+use Rattle.flow_boxes.proofs.Summing.{one_changes, sum_of_none, term_of_sum, sums_below}
+use Rattle.nat_box.proofs.Effects.{holds_none, seen, Shifts, IsPart, IsUnder, Own, touch_sound}
 use Rattle.nat_box.proofs.Following.{seen_followed}
 use Rattle.nat_box.proofs.Noting.{touched_noted}
 use Rattle.nat_box.proofs.Moving.{HandNone, touching, Outcome, outcome}
@@ -67,6 +70,7 @@ queued_below k e AsksIfLives n = omega arith
 queued_below k e CountsDrop n = omega arith
 queued_below k e SendsOut n = omega arith
 queued_below k e AtEnd n = omega arith
+queued_below k e FindsPort n = omega arith
 
 mapped_below : (k : PortKey) (e : Endpoint) (x : NatValue) → mapped_at (maps_for k e) x ≤ mapped_at (maps k) x
 mapped_below k e (Dropped d) = omega arith
@@ -113,8 +117,8 @@ module _ (s : Settings) (is : AreSettings s) (threads : ℕ) (k : PortKey) (e : 
 
     -- that touches nothing
     still_sound : HandNone (thread t).hand → HandNone after.hand
-        → IsSound (of_range s.low s.high k) (tally_of s threads k e value thread)
-        → IsSound (of_range s.low s.high k) (tally_of s threads k e value next_thread)
+        → IsSound (places_of s k) (tally_of s threads k e value thread)
+        → IsSound (places_of s k) (tally_of s threads k e value next_thread)
     still_sound before later sound =
         let x = free_numbers k e (thread t).hand before in
         let y = free_numbers k e after.hand later in
@@ -198,8 +202,8 @@ module _ (s : Settings) (is : AreSettings s) (threads : ℕ) (k : PortKey) (e : 
 
     deed_sound : (earlier : List (Step NatValue)) (d : Effect NatValue)
         → ((v : ℕ) → v < 2 + 2 * s.shards → Fits s v (value v)) → Outcome s value (thread t).hand after.hand d
-        → IsSound (of_range s.low s.high k) (tally_of s threads k e value thread)
-        → IsSound (of_range s.low s.high k)
+        → IsSound (places_of s k) (tally_of s threads k e value thread)
+        → IsSound (places_of s k)
         (tally_of s threads k e (λ v. left_by v (act_of t earlier after.taken d) (value v)) next_thread)
     deed_sound earlier Takes fits o sound = still_sound o.0 o.1 sound
     deed_sound earlier (Looks v) fits o sound = still_sound o.0 o.1 sound
@@ -225,70 +229,42 @@ module _ (s : Settings) (is : AreSettings s) (threads : ℕ) (k : PortKey) (e : 
         let z : Tally = tally_of s threads k e (λ v. cond (nat_eq w v) left (value v)) next_thread in
         let same : seen k e left r.1.place r.1.noted ≡ seen k e r.0 r.1.place r.1.noted =
         seen_followed k e s n r.0 r.1.place r.1.noted in
-        let done : IsSound (of_range s.low s.high k) z =
-        touch_sound s is.some k e (of_range s.low s.high k) (of_range_one s.low s.high k) own_is y z sound under p
-        (value w) n w at refl (fits w below) refl (part w left below p n r.1 was goes_on)
+        let done : IsSound (places_of s k) z =
+        touch_sound s is.some k e (places_of s k) (places_one s k) own_is y z sound under p (value w) n w at refl
+        (fits w below) (range_left s is value fits k) (part w left below p n r.1 was goes_on)
         (subst (λ (a : Tally). Shifts y z (seen k e (value w) p n) a) same (shifts w left below p n r.1 was goes_on))
         (subst (λ (a : Tally). Own own_is y z (seen k e (value w) p n) a) same
         (own w left below p n r.1 was goes_on own_is refl))
         (touching s p n w o.2) in
         subst (λ (x : NatValue).
-        IsSound (of_range s.low s.high k) (tally_of s threads k e (λ v. cond (nat_eq w v) x (value v)) next_thread))
+        IsSound (places_of s k) (tally_of s threads k e (λ v. cond (nat_eq w v) x (value v)) next_thread))
         (sym o.3) done
 
--- at the start all ports are free
-
-fresh_other : (s : Settings) (k : PortKey) (v : ℕ) → v ≢ 1 → free_at k (fresh_value s v) ≡ 0
-fresh_other s k v not_one = by (v == 0) (v == 1) (nat_lt v (2 + s.shards)) refl refl refl
-  where
-    by : (a b c : Bool) → (v == 0) ≡ a → (v == 1) ≡ b → nat_lt v (2 + s.shards) ≡ c → free_at k (fresh_value s v) ≡ 0
-    by true b c x y z = rw x refl
-    by false true c x y z = absurd (not_one (eqb-true _ _ y))
-    by false false true x y z = rw (x, y, z) refl
-    by false false false x y z = rw (x, y, z) refl
-
-fresh_mapped : (s : Settings) (number : Endpoint → ℕ → ℕ) (v : ℕ) → mapped_at number (fresh_value s v) ≡ 0
-fresh_mapped s number v = by (v == 0) (v == 1) (nat_lt v (2 + s.shards)) refl refl refl
-  where
-    by : (a b c : Bool) → (v == 0) ≡ a → (v == 1) ≡ b → nat_lt v (2 + s.shards) ≡ c
-        → mapped_at number (fresh_value s v) ≡ 0
-    by true b c x y z = rw x refl
-    by false true c x y z = rw (x, y) refl
-    by false false true x y z = rw (x, y, z) refl
-    by false false false x y z = rw (x, y, z) refl
-
-fresh_taken : (s : Settings) (number : PortKey → Endpoint → ℕ) (v : ℕ) → taken_at number (fresh_value s v) ≡ 0
-fresh_taken s number v = by (v == 0) (v == 1) (nat_lt v (2 + s.shards)) refl refl refl
-  where
-    by : (a b c : Bool) → (v == 0) ≡ a → (v == 1) ≡ b → nat_lt v (2 + s.shards) ≡ c
-        → taken_at number (fresh_value s v) ≡ 0
-    by true b c x y z = rw x refl
-    by false true c x y z = rw (x, y) refl
-    by false false true x y z = rw (x, y, z) refl
-    by false false false x y z = rw (x, y, z) refl
-
+-- At the start the static ports have their places, and all others are free.
 pub ports_stand : PortsStand
 ports_stand s threads inputs [] is h k e =
     let hands : (number : Place → Noted → ℕ) → in_hands number threads (thread_after {V = NatValue} []) ≡ 0 =
     λ number. sum_of_none threads _ (λ t. refl) in
-    let free : in_values s (free_at k) (fresh_value s) ≡ of_range s.low s.high k =
-    one_term (2 + 2 * s.shards) 1 (λ v. free_at k (fresh_value s v)) (omega (arith, is.some)) (fresh_other s k)
-    ∙ free_full k s.low s.high is.order in
-    let mapped : in_values s (mapped_at (maps k)) (fresh_value s) ≡ 0 =
-    sum_of_none (2 + 2 * s.shards) _ (fresh_mapped s (maps k)) in
-    let mapped_for : in_values s (mapped_at (maps_for k e)) (fresh_value s) ≡ 0 =
-    sum_of_none (2 + 2 * s.shards) _ (fresh_mapped s (maps_for k e)) in
-    let taken : taken_at (binds k) (fresh_value s (reverse_table s k)) ≡ 0 =
-    fresh_taken s (binds k) (reverse_table s k) in
+    let free = fresh_free s k is in
+    let once = ports_once k (kept s.statics) (kept_apart s.statics) in
+    let mapped : in_values s (mapped_at (maps k)) (fresh_value s)
+    ≡ one_if (has_port k (outside_ports (kept s.statics))) = fresh_mapped s is.some (maps k) ∙ once in
+    let taken : taken_at (binds k) (fresh_value s (reverse_table s k))
+    ≡ one_if (has_port k (outside_ports (kept s.statics))) =
+    fresh_taken s k (binds k) (λ port key other. ap one_if other) ∙ once in
+    let same : in_values s (mapped_at (maps_for k e)) (fresh_value s)
+    ≡ taken_at (binds_for k e) (fresh_value s (reverse_table s k)) =
+    fresh_mapped s is.some (maps_for k e)
+    ∙ sym (fresh_taken s k (binds_for k e) (λ port key other. rw other refl)) in
     record {
       one = omega (arith, hands (bare k), hands (queued k), hands (loose k), free, mapped);
       bound = omega (arith, hands (queued k), hands (loose k), mapped, taken);
-      same = omega (arith, hands (queued_for k e), mapped_for);
+      same = omega (arith, hands (queued_for k e), same);
     }
 ports_stand s threads inputs (x ∷ earlier) is h k e =
     let value : ℕ → NatValue = value_after (nat_meaning s) earlier in
     let thread : ℕ → Thread = thread_after earlier in
-    let old : IsSound (of_range s.low s.high k) (tally_of s threads k e value thread) =
+    let old : IsSound (places_of s k) (tally_of s threads k e value thread) =
     ports_stand s threads inputs earlier is h.1 k e in
     let o =
     outcome s (inputs x.thread) value (thread x.thread).taken x.after h.0.2 (thread x.thread).hand h.0.1 h.0.3 in

@@ -1,9 +1,10 @@
 -- The box as a value: its settings are in range.
-use Rattle.std.specs.Prelude.{ℕ, ◌≤◌, ◌<◌, ◌^◌, min, max, Option, None}
+use Rattle.std.specs.Prelude.{ℕ, ◌≤◌, ◌<◌, ◌^◌, min, max, Option, None, Bool, false, List, []}
 use Rattle.std.proofs.Common.{arith}
 use Rattle.plain_machine.specs.Program.{Meaning, IsLawful}
 use Rattle.flow_boxes.specs.Ranges.{at_least, at_most, one_of_64}
 use Rattle.nat_box.specs.declared.nat.NatBox.{NatBox}
+use Rattle.nat_box.specs.declared.nat.StaticPort.{StaticPort}
 use Rattle.nat_box.specs.declared.value.NatValue.{NatValue}
 use Rattle.nat_box.specs.Nat.{Settings, nat_meaning, Fits}
 use Rattle.nat_box.specs.Lawful.{AreSettings, nat_lawful}
@@ -17,6 +18,8 @@ settings_of b = record {
   low = b.low;
   high = b.high;
   closing = b.closing;
+  statics = b.statics;
+  errors = b.errors;
 }
 
 pub one_of_32 : 1 ≤ 32
@@ -35,6 +38,8 @@ box_with shards inside length outside low high = record {
   low = max 1 (min low 65535);
   high = max (max 1 (min low 65535)) (min high 65535);
   closing = None;
+  statics = [];
+  errors = false;
   some = at_least 1 shards 64;
   few = at_most 1 shards 64 one_of_64;
   long = at_least 1 length 32;
@@ -47,6 +52,14 @@ box_with shards inside length outside low high = record {
 -- the same box, with this number of seconds
 abbrev pub with_closing : Option ℕ → NatBox → NatBox
 with_closing closing b = record b { closing = closing }
+
+-- the same box, with these static ports
+abbrev pub with_statics : List StaticPort → NatBox → NatBox
+with_statics statics b = record b { statics = statics }
+
+-- the same box, with errors of ICMP or without
+abbrev pub with_errors : Bool → NatBox → NatBox
+with_errors errors b = record b { errors = errors }
 
 abbrev pub box_meaning : NatBox → Meaning NatValue
 box_meaning b = nat_meaning (settings_of b)

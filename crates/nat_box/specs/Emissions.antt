@@ -1,8 +1,7 @@
--- What goes out: the frames of RFC 3022, by the tables as the packet's own moves found them.
-use Rattle.std.specs.Prelude.{◌≡◌, ℕ, ◌-◌, ◌≤◌, true, List, [], ◌∷◌, Option, Some, None, Ok, nat_eq, cond, slice_get}
+-- What goes out: the frames of RFC 3022, and the errors of ICMP of RFC 5508, by the tables as the packet's own moves
+-- found them.
+use Rattle.std.specs.Prelude.{◌≡◌, ℕ, ◌-◌, ◌≤◌, true, List, [], ◌∷◌, Option, Some, None, nat_eq, cond, slice_get}
 use Rattle.plain_text.specs.declared.packet.Packet.{Packet}
-use Rattle.packet_headers.specs.declared.flow.Flow.{Flow}
-use Rattle.packet_headers.specs.View.{viewed}
 use Rattle.packet_headers.specs.Rewriting.{with_source, with_dest}
 use Rattle.entry_order.specs.declared.what.What.{What}
 use Rattle.entry_order.specs.declared.what.What.TheVariants.{Access, Read, Clock, Draw}
@@ -12,11 +11,14 @@ use Rattle.nat_tables.specs.declared.entries.Endpoint.{Endpoint}
 use Rattle.nat_tables.specs.declared.slot.Slot.{Slot}
 use Rattle.nat_tables.specs.Forwards.{Forwards, slot_of, lives}
 use Rattle.nat_box.specs.declared.place.Class.{Class}
-use Rattle.nat_box.specs.declared.place.Class.TheVariants.{Outbound, Hairpin, Inbound}
+use Rattle.nat_box.specs.declared.place.Class.TheVariants.{Outbound, Hairpin, Inbound, OutboundError}
 use Rattle.nat_box.specs.declared.value.NatValue.{NatValue}
 use Rattle.nat_box.specs.declared.value.NatValue.TheVariants.{Dropped, Free, Mapped, Taken}
 use Rattle.flow_boxes.specs.Flows.{HaveBytes, source_of}
-use Rattle.nat_box.specs.Nat.{Settings, class_of_flow, nat_meaning}
+use Rattle.nat_box.specs.declared.seeing.Seen.{Seen}
+use Rattle.nat_box.specs.declared.seeing.Seen.TheVariants.{OfFlow, OfError, OfNeither}
+use Rattle.icmp_errors.specs.ErrorRewriting.{with_quoted_source, with_quoted_dest}
+use Rattle.nat_box.specs.Nat.{Settings, flow_of_error, seen_by, class_seen, nat_meaning}
 use Rattle.nat_box.specs.Lawful.{AreSettings}
 
 -- What the moves of a packet in hand met: the forward table as its newest touch of one left it, the value that its
@@ -66,22 +68,32 @@ abbrev pub Lived : Trail → Endpoint → ℕ → Type 0
 Lived r key port =
     (es : Forwards) × (now : ℕ) × (r.read ≡ Some (Mapped es)) × (r.clock ≡ Some now) × (lives key port now es ≡ true)
 
-abbrev pub IsTranslated : Settings → List ℕ → Flow → Trail → List ℕ → Class → Type 0
-IsTranslated s bytes flow r sent Outbound =
+-- A flow is translated; an error of ICMP with the packet that it quotes, by a mapping that its reads found. The other
+-- cases do not come.
+abbrev pub IsTranslated : Settings → List ℕ → Seen → Trail → List ℕ → Class → Type 0
+IsTranslated s bytes (OfFlow flow) r sent Outbound =
     (port : ℕ) × WasMapped r.forward (source_of flow) port × (sent ≡ with_source bytes flow s.outside port)
-IsTranslated s bytes flow r sent Inbound =
+IsTranslated s bytes (OfFlow flow) r sent Inbound =
     (key : Endpoint) × (key.protocol ≡ flow.protocol) × Lived r key flow.dest_port
     × (sent ≡ with_dest bytes flow key.address key.port)
-IsTranslated s bytes flow r sent Hairpin =
+IsTranslated s bytes (OfFlow flow) r sent Hairpin =
     (port : ℕ) × (key : Endpoint) × WasMapped r.forward (source_of flow) port × (key.protocol ≡ flow.protocol)
     × Lived r key flow.dest_port × (sent ≡ with_dest (with_source bytes flow s.outside port) flow key.address key.port)
+IsTranslated s bytes (OfFlow flow) r sent OutboundError = ⊥
+IsTranslated s bytes (OfError error) r sent Inbound =
+    (key : Endpoint) × (key.protocol ≡ error.protocol) × Lived r key error.quoted_source_port
+    × (sent ≡ with_quoted_source bytes error key.address key.port)
+IsTranslated s bytes (OfError error) r sent OutboundError =
+    (port : ℕ) × Lived r (source_of (flow_of_error error)) port × (sent ≡ with_quoted_dest bytes error s.outside port)
+IsTranslated s bytes (OfError error) r sent Outbound = ⊥
+IsTranslated s bytes (OfError error) r sent Hairpin = ⊥
+IsTranslated s bytes (OfNeither answer) r sent class = ⊥
 
--- the packet is a flow of a class, and these bytes are its translation
+-- the packet is a flow or an error of a class, and these bytes are its translation
 abbrev pub IsTranslationOf : Settings → Trail → List ℕ → Option Packet → Type 0
 IsTranslationOf s r sent None = ⊥
 IsTranslationOf s r sent (Some p) =
-    (flow : Flow) × (class : Class) × (viewed p.bytes p.original ≡ Ok flow)
-    × (class_of_flow s flow.source flow.dest ≡ Some class) × IsTranslated s p.bytes flow r sent class
+    (class : Class) × (class_seen s p ≡ Some class) × IsTranslated s p.bytes (seen_by s p) r sent class
 
 -- what a thread sends out is the translation of its input of the emission's number
 abbrev pub EmissionsTranslate : Type 0

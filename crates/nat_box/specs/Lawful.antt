@@ -1,5 +1,5 @@
 -- The laws of programs, of the box with 1 to 64 tables of each kind.
-use Rattle.std.specs.Prelude.{◌≡◌, ℕ, zero, suc, ◌+◌, ◌-◌, ◌*◌, ◌%◌, ◌^◌, ◌<◌, ◌≤◌, Bool, true, false, List, [], ◌∷◌}
+use Rattle.std.specs.Prelude.{◌≡◌, ℕ, zero, suc, ◌+◌, ◌-◌, ◌*◌, ◌/◌, ◌%◌, ◌^◌, ◌<◌, ◌≤◌, Bool, true, false, List, [], ◌∷◌}
 use Rattle.std.specs.Prelude.{◌++◌, length, take, drop, slice_index, Option, Some, None, Result, Ok, Err, ◌==◌, nat_lt}
 use Rattle.std.specs.Prelude.{refl, if◌then◌else◌}
 use Rattle.std.specs.List.{remove}
@@ -8,23 +8,31 @@ use Rattle.std.proofs.lemmas.Grind.{common_steps}
 use Rattle.std.proofs.lemmas.Bool.Decides.{nat_tests}
 use Rattle.packet_headers.specs.declared.flow.Flow.{Flow}
 use Rattle.packet_headers.specs.declared.flow.NotFlow.{NotFlow}
-use Rattle.packet_headers.specs.View.{viewed}
-use Rattle.packet_headers.specs.Fields.{put_word, put_long}
+use Rattle.packet_headers.specs.Fields.{put_word, put_long, long_at}
 use Rattle.packet_headers.specs.Rewriting.{rewritten, with_source}
+use Rattle.icmp_errors.specs.declared.error.IcmpError.{IcmpError}
+use Rattle.icmp_errors.specs.ErrorRewriting.{exchanged_word, exchanged_long, icmp_checksum, quoted_checksum}
+use Rattle.icmp_errors.specs.ErrorRewriting.{source_place, dest_place, transport_checksum, has_transport_checksum}
+use Rattle.icmp_errors.specs.ErrorRewriting.{transport_sum, header_sum, with_transport_checksum, with_quoted_address}
+use Rattle.icmp_errors.specs.ErrorRewriting.{rewritten_error}
+use Rattle.icmp_errors.proofs.Exchanges.{length-exchanged}
 use Rattle.plain_machine.specs.declared.local.Move.TheVariants.{Access, Read, Clock, Draw, Emit, End}
 use Rattle.plain_machine.specs.Program.{IsLawful}
 use Rattle.nat_tables.specs.declared.entries.Endpoint.{Endpoint}
+use Rattle.nat_tables.specs.declared.entries.PortKey.{PortKey}
 use Rattle.nat_tables.specs.declared.slot.Slot.{Slot}
 use Rattle.nat_tables.specs.declared.entries.Find.{Find}
 use Rattle.nat_tables.specs.declared.entries.Find.TheVariants.{Live, Absent}
 use Rattle.nat_tables.specs.declared.entries.Bind.{Bind}
 use Rattle.nat_tables.specs.declared.entries.Bind.TheVariants.{Bound, Other}
 use Rattle.nat_tables.specs.Ports.{Ports, PoolPorts, chosen, of_even, of_odd, is_even, reserved_of, with_port}
-use Rattle.nat_tables.specs.Ports.{given_back_to, reserve, is_in_range, give_back, ports_from, IsBelow, AreOfParity}
-use Rattle.nat_tables.specs.Ports.{ArePorts, no_ports}
+use Rattle.nat_tables.specs.Ports.{given_back_to, reserve, is_in_range, give_back, IsBelow, AreOfParity}
+use Rattle.nat_tables.specs.Ports.{ArePorts, no_ports, has_port, ports_without}
+use Rattle.nat_tables.specs.Keys.{port_key}
 use Rattle.nat_tables.specs.Forwards.{Forwards, is_idle, slot_of, first_idle, found, find, bound, find_or_bind, lives}
 use Rattle.nat_tables.specs.declared.phase.Phase.{Phase}
 use Rattle.nat_tables.specs.declared.phase.Phase.TheVariants.{Plain, Opening, Established, Closing}
+use Rattle.nat_tables.specs.declared.phase.Phase.TheVariants.{EndedByClient, EndedByServer, Kept}
 use Rattle.nat_tables.specs.declared.phase.Segment.{Segment}
 use Rattle.nat_tables.specs.declared.phase.Segment.TheVariants.{Silent, Opens, Carries, Closes}
 use Rattle.nat_tables.specs.Phases.{phase_after}
@@ -32,22 +40,28 @@ use Rattle.nat_tables.specs.Forwards.{refreshed, mark, AreMappings}
 use Rattle.nat_tables.specs.Reverses.{endpoint_of}
 use Rattle.nat_tables.proofs.Keeping.{keeps_refreshed, keeps_without, keeps_without_idle, keeps_bound, keeps_bind}
 use Rattle.nat_tables.proofs.Keeping.{keeps_unbind, keeps_marked}
+use Rattle.nat_tables.proofs.Keepings.{kept_found, kept_bound, kept_marked}
 use Rattle.nat_box.specs.declared.place.Place.{Place}
 use Rattle.nat_box.specs.declared.place.Place.TheVariants.{HearsTime, FindsMapping, UnbindsFreed, GivesBackFreed}
 use Rattle.nat_box.specs.declared.place.Place.TheVariants.{DrawsWord, ReservesPort, BindsPort, FindsOrBinds}
 use Rattle.nat_box.specs.declared.place.Place.TheVariants.{UnbindsLost, GivesBackLost, FindsEndpoint, AsksIfLives}
-use Rattle.nat_box.specs.declared.place.Place.TheVariants.{CountsDrop, SendsOut, Ends}
+use Rattle.nat_box.specs.declared.place.Place.TheVariants.{CountsDrop, SendsOut, Ends, FindsPort}
 use Rattle.nat_box.specs.declared.place.Class.{Class}
-use Rattle.nat_box.specs.declared.place.Class.TheVariants.{Outbound, Hairpin, Inbound}
+use Rattle.nat_box.specs.declared.place.Class.TheVariants.{Outbound, Hairpin, Inbound, OutboundError}
 use Rattle.nat_box.specs.declared.place.Noted.{Noted}
+use Rattle.nat_box.specs.declared.seeing.Seen.{Seen}
+use Rattle.nat_box.specs.declared.seeing.Seen.TheVariants.{OfFlow, OfError, OfNeither}
 use Rattle.nat_box.specs.declared.value.NatValue.{NatValue}
 use Rattle.nat_box.specs.declared.value.NatValue.TheVariants.{Dropped, Free, Mapped, Taken}
 use Rattle.nat_box.specs.Places.{place_numbered, noted, source_key, dest_key}
 use Rattle.nat_box.specs.declared.place.Goes.{Goes}
-use Rattle.nat_box.specs.Nat.{Settings, forward_table, reverse_table, next_move, moves_left, class_of_flow, begun_as}
+use Rattle.nat_box.specs.Nat.{Settings, forward_table, reverse_table, next_move, moves_left, flow_in, class_in}
+use Rattle.nat_box.specs.Nat.{seen_by, begun_by, used_port, after_port, error_out}
 use Rattle.nat_box.specs.Nat.{begun, mapped, after_find, after_reserve, after_bind, touched, after_endpoint, looked_by}
 use Rattle.nat_box.specs.Nat.{looked, after_time, told, frame_out, bytes_out, local_at, fresh_value, nat_meaning}
-use Rattle.nat_box.specs.Nat.{MayMap, MayBind, Fits, HasPhase, followed_by, followed, segment_told}
+use Rattle.nat_box.specs.Nat.{MayMap, MayBind, HaveKept, Fits, HasPhase, followed_by, followed}
+use Rattle.nat_box.specs.Statics.{inside_of, kept, outside_ports}
+use Rattle.nat_box.specs.StaticLaws.{fresh_mappings, fresh_kept, fresh_bound}
 use Rattle.nat_box.specs.Noting.{place_again, IsNoted, is_noted}
 
 -- what may be configured
@@ -78,6 +92,7 @@ var_of s AsksIfLives n = forward_table s n.target
 var_of s CountsDrop n = 0
 var_of s SendsOut n = 0
 var_of s Ends n = 0
+var_of s FindsPort n = forward_table s n.source
 
 pub touches_it : (s : Settings) (p : Place) (n : Noted) (v : ℕ) → next_move s p n ≡ Access v → var_of s p n ≡ v
 touches_it s HearsTime n v e = absurd (cc)
@@ -95,6 +110,7 @@ touches_it s AsksIfLives n v e = absurd (cc)
 touches_it s CountsDrop n v e = cc
 touches_it s SendsOut n v e = absurd (cc)
 touches_it s Ends n v e = absurd (cc)
+touches_it s FindsPort n v e = absurd (cc)
 
 pub reads_it : (s : Settings) (p : Place) (n : Noted) (v : ℕ) → next_move s p n ≡ Read v → var_of s p n ≡ v
 reads_it s HearsTime n v e = absurd (cc)
@@ -112,6 +128,7 @@ reads_it s AsksIfLives n v e = cc
 reads_it s CountsDrop n v e = absurd (cc)
 reads_it s SendsOut n v e = absurd (cc)
 reads_it s Ends n v e = absurd (cc)
+reads_it s FindsPort n v e = cc
 
 pub below_all : (s : Settings) (p : Place) (n : Noted) → 1 ≤ s.shards → var_of s p n < 2 + 2 * s.shards
 below_all s HearsTime n some = omega arith
@@ -129,6 +146,7 @@ below_all s AsksIfLives n some = omega arith
 below_all s CountsDrop n some = omega arith
 below_all s SendsOut n some = omega arith
 below_all s Ends n some = omega arith
+below_all s FindsPort n some = omega arith
 
 -- Ranks fall
 
@@ -139,6 +157,7 @@ mapped_falls : (n : Noted) (c : Class) → moves_left (mapped n c).place ≤ 3
 mapped_falls n Outbound = omega arith
 mapped_falls n Hairpin = omega arith
 mapped_falls n Inbound = omega arith
+mapped_falls n OutboundError = omega arith
 
 find_falls : (n : Noted) (f : Find) → moves_left (after_find n f).place < 12
 find_falls n (Live port) = let a = mapped_falls (record n { port = port }) n.class in omega arith
@@ -198,6 +217,7 @@ touch_falls_at s CountsDrop (Mapped es) n v e = omega arith
 touch_falls_at s CountsDrop (Taken bs) n v e = omega arith
 touch_falls_at s SendsOut x n v e = absurd (cc)
 touch_falls_at s Ends x n v e = absurd (cc)
+touch_falls_at s FindsPort x n v e = absurd (cc)
 
 endpoint_falls : (n : Noted) (o : Option Endpoint) → moves_left (after_endpoint n o).place < 3
 endpoint_falls n (Some key) = omega arith
@@ -206,6 +226,10 @@ endpoint_falls n None = omega arith
 lives_falls : (n : Noted) (b : Bool) → moves_left (looked_by n b).place < 2
 lives_falls n true = omega arith
 lives_falls n false = omega arith
+
+port_falls : (n : Noted) (o : Option ℕ) → moves_left (after_port n o).place < 2
+port_falls n (Some port) = omega arith
+port_falls n None = omega arith
 
 look_falls_at : (s : Settings) (p : Place) (x : NatValue) (n : Noted) (v : ℕ) → next_move s p n ≡ Read v
     → moves_left (looked p x n).place < moves_left p
@@ -230,11 +254,16 @@ look_falls_at s AsksIfLives (Taken bs) n v e = omega arith
 look_falls_at s CountsDrop x n v e = absurd (cc)
 look_falls_at s SendsOut x n v e = absurd (cc)
 look_falls_at s Ends x n v e = absurd (cc)
+look_falls_at s FindsPort (Dropped d) n v e = omega arith
+look_falls_at s FindsPort (Free pool) n v e = omega arith
+look_falls_at s FindsPort (Mapped es) n v e = port_falls n (used_port n.source n.time es)
+look_falls_at s FindsPort (Taken bs) n v e = omega arith
 
 time_falls : (n : Noted) (c : Class) → moves_left (after_time n c).place < 13
 time_falls n Outbound = omega arith
 time_falls n Hairpin = omega arith
 time_falls n Inbound = omega arith
+time_falls n OutboundError = omega arith
 
 clock_falls_at : (s : Settings) (p : Place) (a : ℕ) (n : Noted) → next_move s p n ≡ Clock
     → moves_left (told p a n).place < moves_left p
@@ -253,6 +282,7 @@ clock_falls_at s AsksIfLives a n e = absurd (cc)
 clock_falls_at s CountsDrop a n e = absurd (cc)
 clock_falls_at s SendsOut a n e = absurd (cc)
 clock_falls_at s Ends a n e = absurd (cc)
+clock_falls_at s FindsPort a n e = absurd (cc)
 
 draw_falls_at : (s : Settings) (p : Place) (a : ℕ) (n : Noted) → next_move s p n ≡ Draw
     → moves_left (told p a n).place < moves_left p
@@ -271,6 +301,7 @@ draw_falls_at s AsksIfLives a n e = absurd (cc)
 draw_falls_at s CountsDrop a n e = absurd (cc)
 draw_falls_at s SendsOut a n e = absurd (cc)
 draw_falls_at s Ends a n e = absurd (cc)
+draw_falls_at s FindsPort a n e = absurd (cc)
 
 emit_falls_at : (s : Settings) (p : Place) (n : Noted) → next_move s p n ≡ Emit → 0 < moves_left p
 emit_falls_at s HearsTime n e = absurd (cc)
@@ -288,6 +319,7 @@ emit_falls_at s AsksIfLives n e = absurd (cc)
 emit_falls_at s CountsDrop n e = absurd (cc)
 emit_falls_at s SendsOut n e = omega arith
 emit_falls_at s Ends n e = absurd (cc)
+emit_falls_at s FindsPort n e = absurd (cc)
 
 ends_at : (s : Settings) (p : Place) (n : Noted) → moves_left p ≡ 0 → next_move s p n ≡ End
 ends_at s HearsTime n e = absurd (omega arith)
@@ -305,14 +337,15 @@ ends_at s AsksIfLives n e = absurd (omega arith)
 ends_at s CountsDrop n e = absurd (omega arith)
 ends_at s SendsOut n e = absurd (omega arith)
 ends_at s Ends n e = refl
+ends_at s FindsPort n e = absurd (omega arith)
 
-few_to_make : (s : Settings) (seen : Result Flow NotFlow) → moves_left (begun s seen).place ≤ 62
-few_to_make s (Ok flow) = by (class_of_flow s flow.source flow.dest)
+few_to_make : (s : Settings) (seen : Seen) → moves_left (begun s seen).place ≤ 62
+few_to_make s seen = by (flow_in seen) (class_in s seen)
   where
-    by : (o : Option Class) → moves_left (begun_as (segment_told s.closing flow.flags) flow o).place ≤ 62
-    by (Some class) = omega arith
-    by None = omega arith
-few_to_make s (Err answer) = omega arith
+    by : (r : Result Flow NotFlow) (o : Option Class) → moves_left (begun_by s r o).place ≤ 62
+    by (Ok flow) (Some class) = omega arith
+    by (Ok flow) None = omega arith
+    by (Err answer) o = omega arith
 
 -- Values fit
 
@@ -393,10 +426,16 @@ small_given p ports low small = by (is_even p) refl
     by true q = let e : p % 2 ≡ 0 = grind (arith, nat_tests) in rw q (small_with 0 p ports.even low e small.0, small.1)
     by false q = let e : p % 2 ≡ 1 = grind (arith, nat_tests) in rw q (small.0, small_with 1 p ports.odd low e small.1)
 
-small_from : (low n : ℕ) (ports : Ports) → low + n ≤ 2 ^ 16 → SmallPorts ports → SmallPorts (ports_from low n ports)
-small_from low zero ports fit small = small
-small_from low (suc n) ports fit small =
-    small_given (low + n) (ports_from low n ports) (omega arith) (small_from low n ports (omega arith) small)
+small_without : (out : List PortKey) (protocol low n : ℕ) → low + n ≤ 2 ^ 16
+    → SmallPorts (ports_without out protocol low n)
+small_without out protocol low zero fit = (tt, tt)
+small_without out protocol low (suc n) fit =
+    by (has_port (port_key protocol (low + n)) out) refl (small_without out protocol low n (omega arith))
+  where
+    by : (b : Bool) → has_port (port_key protocol (low + n)) out ≡ b → SmallPorts (ports_without out protocol low n)
+        → SmallPorts (ports_without out protocol low (suc n))
+    by true e rest = rw e rest
+    by false e rest = rw e (small_given (low + n) (ports_without out protocol low n) (omega arith) rest)
 
 -- the pool stays one of this range
 abbrev FitsPool : Settings → PoolPorts → Type 0
@@ -460,6 +499,8 @@ touched_fits s FindsMapping (Mapped es) n v is e fits = (
   fits.1,
   fits_found (MayMap s v) n.source n.time es (slot_of n.source es) (first_idle n.time es)
       (λ slot may. may) fits.2,
+  λ p is at. kept_found (inside_of p) p.outside n.source n.time es (slot_of n.source es) (first_idle n.time es) refl
+      (fits.3 p is at),
 )
 touched_fits s FindsMapping (Taken bs) n v is e fits = fits
 touched_fits s UnbindsFreed (Dropped d) n v is e fits = fits
@@ -490,7 +531,8 @@ touched_fits s FindsOrBinds (Mapped es) n v is e fits = (
   fits.0,
   fits.1,
   fits_bound (MayMap s v) n.source n.port n.time es (slot_of n.source es) refl (λ slot may. may)
-      (sym e, is.protocol, is.port, tt) fits.2,
+      (sym e, is.protocol, is.port, tt, λ q. absurd (cc)) fits.2,
+  λ p is at. kept_bound (inside_of p) p.outside n.source n.port n.time es (slot_of n.source es) (fits.3 p is at),
 )
 touched_fits s FindsOrBinds (Taken bs) n v is e fits = fits
 touched_fits s UnbindsLost (Dropped d) n v is e fits = fits
@@ -511,6 +553,7 @@ touched_fits s CountsDrop (Mapped es) n v is e fits = fits
 touched_fits s CountsDrop (Taken bs) n v is e fits = fits
 touched_fits s SendsOut x n v is e fits = fits
 touched_fits s Ends x n v is e fits = fits
+touched_fits s FindsPort x n v is e fits = fits
 
 -- the segment that is noted in a mapping
 
@@ -520,12 +563,61 @@ phase_fits closing protocol seconds Silent Plain is tcp = (is, tcp)
 phase_fits closing protocol seconds Silent (Opening old) is tcp = (is, tcp)
 phase_fits closing protocol seconds Silent Established is tcp = (seconds, is, tcp)
 phase_fits closing protocol seconds Silent (Closing old) is tcp = (is, tcp)
-phase_fits closing protocol seconds Opens phase is tcp = (is, tcp)
+phase_fits closing protocol seconds Silent EndedByClient is tcp = (is, tcp)
+phase_fits closing protocol seconds Silent EndedByServer is tcp = (is, tcp)
+phase_fits closing protocol seconds Silent Kept is tcp = tt
+phase_fits closing protocol seconds Opens Plain is tcp = (is, tcp)
+phase_fits closing protocol seconds Opens (Opening old) is tcp = (is, tcp)
+phase_fits closing protocol seconds Opens Established is tcp = (is, tcp)
+phase_fits closing protocol seconds Opens (Closing old) is tcp = (is, tcp)
+phase_fits closing protocol seconds Opens EndedByClient is tcp = (is, tcp)
+phase_fits closing protocol seconds Opens EndedByServer is tcp = (is, tcp)
+phase_fits closing protocol seconds Opens Kept is tcp = tt
 phase_fits closing protocol seconds Carries Plain is tcp = (seconds, is, tcp)
 phase_fits closing protocol seconds Carries (Opening old) is tcp = (seconds, is, tcp)
 phase_fits closing protocol seconds Carries Established is tcp = (seconds, is, tcp)
 phase_fits closing protocol seconds Carries (Closing old) is tcp = (is, tcp)
-phase_fits closing protocol seconds Closes phase is tcp = (is, tcp)
+phase_fits closing protocol seconds Carries EndedByClient is tcp = (is, tcp)
+phase_fits closing protocol seconds Carries EndedByServer is tcp = (is, tcp)
+phase_fits closing protocol seconds Carries Kept is tcp = tt
+phase_fits closing protocol seconds Closes Plain is tcp = (is, tcp)
+phase_fits closing protocol seconds Closes (Opening old) is tcp = (is, tcp)
+phase_fits closing protocol seconds Closes Established is tcp = (is, tcp)
+phase_fits closing protocol seconds Closes (Closing old) is tcp = (is, tcp)
+phase_fits closing protocol seconds Closes EndedByClient is tcp = (is, tcp)
+phase_fits closing protocol seconds Closes EndedByServer is tcp = (is, tcp)
+phase_fits closing protocol seconds Closes Kept is tcp = tt
+
+-- no segment makes a mapping one that is kept for good
+was_kept : (seconds : ℕ) (segment : Segment) (phase : Phase) → phase_after seconds segment phase ≡ Kept → phase ≡ Kept
+was_kept seconds Silent Plain is = absurd (cc)
+was_kept seconds Silent (Opening old) is = absurd (cc)
+was_kept seconds Silent Established is = absurd (cc)
+was_kept seconds Silent (Closing old) is = absurd (cc)
+was_kept seconds Silent EndedByClient is = absurd (cc)
+was_kept seconds Silent EndedByServer is = absurd (cc)
+was_kept seconds Silent Kept is = refl
+was_kept seconds Opens Plain is = absurd (cc)
+was_kept seconds Opens (Opening old) is = absurd (cc)
+was_kept seconds Opens Established is = absurd (cc)
+was_kept seconds Opens (Closing old) is = absurd (cc)
+was_kept seconds Opens EndedByClient is = absurd (cc)
+was_kept seconds Opens EndedByServer is = absurd (cc)
+was_kept seconds Opens Kept is = refl
+was_kept seconds Carries Plain is = absurd (cc)
+was_kept seconds Carries (Opening old) is = absurd (cc)
+was_kept seconds Carries Established is = absurd (cc)
+was_kept seconds Carries (Closing old) is = absurd (cc)
+was_kept seconds Carries EndedByClient is = absurd (cc)
+was_kept seconds Carries EndedByServer is = absurd (cc)
+was_kept seconds Carries Kept is = refl
+was_kept seconds Closes Plain is = absurd (cc)
+was_kept seconds Closes (Opening old) is = absurd (cc)
+was_kept seconds Closes Established is = absurd (cc)
+was_kept seconds Closes (Closing old) is = absurd (cc)
+was_kept seconds Closes EndedByClient is = absurd (cc)
+was_kept seconds Closes EndedByServer is = absurd (cc)
+was_kept seconds Closes Kept is = refl
 
 followed_fit : (s : Settings) (v : ℕ) (n : Noted) (es : Forwards) (c : Option ℕ) → s.closing ≡ c
     → AreMappings (MayMap s v) es → AreMappings (MayMap s v) (followed_by c n es)
@@ -537,14 +629,29 @@ followed_fit s v n es (Some seconds) is all = by (n.source.protocol == 6) refl
     by true q =
         let tcp : n.source.protocol ≡ 6 = grind (arith, nat_tests) in
         keeps_marked (MayMap s v) n.source seconds n.segment es
-        (λ slot may. (may.0, may.1, may.2, phase_fits s.closing n.source.protocol seconds n.segment slot.phase is tcp))
-        all
+        (λ slot may. (
+          may.0,
+          may.1,
+          may.2,
+          phase_fits s.closing n.source.protocol seconds n.segment slot.phase is tcp,
+          λ k. may.4 (was_kept seconds n.segment slot.phase k),
+        )) all
     by false q = all
+
+followed_kept : (s : Settings) (v : ℕ) (n : Noted) (es : Forwards) (c : Option ℕ) → HaveKept s v es
+    → HaveKept s v (followed_by c n es)
+followed_kept s v n es None all = all
+followed_kept s v n es (Some seconds) all = by (n.source.protocol == 6)
+  where
+    by : (b : Bool) → HaveKept s v (if b then mark n.source seconds n.segment es else es)
+    by true = λ p is at. kept_marked (inside_of p) p.outside n.source seconds n.segment es (all p is at)
+    by false = all
 
 value_fits : (s : Settings) (v : ℕ) (n : Noted) (x : NatValue) → Fits s v x → Fits s v (followed s n x)
 value_fits s v n (Dropped d) fits = fits
 value_fits s v n (Free pool) fits = fits
-value_fits s v n (Mapped es) fits = (fits.0, fits.1, followed_fit s v n es s.closing refl fits.2)
+value_fits s v n (Mapped es) fits =
+    (fits.0, fits.1, followed_fit s v n es s.closing refl fits.2, followed_kept s v n es s.closing fits.3)
 value_fits s v n (Taken bs) fits = fits
 
 fresh_fits_at : (s : Settings) → AreSettings s → (v : ℕ) → Fits s v (fresh_value s v)
@@ -553,13 +660,16 @@ fresh_fits_at s is v = by (v == 0) (v == 1) (nat_lt v (2 + s.shards)) refl refl 
     by : (a b c : Bool) → (v == 0) ≡ a → (v == 1) ≡ b → nat_lt v (2 + s.shards) ≡ c → Fits s v (fresh_value s v)
     by true b c e f g = rw e (grind (arith, nat_tests))
     by false true c e f g =
-        let a : SmallPorts (ports_from s.low (s.high + 1 - s.low) no_ports) = start in
-        rw (e, f) (grind (arith, nat_tests), refl, refl, (a.0, a.1, a.0, a.1))
+        let a = start 6 in let b = start 17 in rw (e, f) (grind (arith, nat_tests), refl, refl, (a.0, a.1, b.0, b.1))
       where
-        start : SmallPorts (ports_from s.low (s.high + 1 - s.low) no_ports)
-        start = small_from s.low (s.high + 1 - s.low) no_ports (omega (arith, is.order, is.high)) (tt, tt)
-    by false false true e f g = rw (e, f, g) (grind (arith, nat_tests), grind (arith, nat_tests), tt)
-    by false false false e f g = rw (e, f, g) (grind (arith, nat_tests), tt)
+        start : (protocol : ℕ)
+            → SmallPorts (ports_without (outside_ports (kept s.statics)) protocol s.low (s.high + 1 - s.low))
+        start protocol =
+            small_without (outside_ports (kept s.statics)) protocol s.low (s.high + 1 - s.low)
+            (omega (arith, is.order, is.high))
+    by false false true e f g =
+        rw (e, f, g) (grind (arith, nat_tests), grind (arith, nat_tests), fresh_mappings s v, fresh_kept s v)
+    by false false false e f g = rw (e, f, g) (grind (arith, nat_tests), fresh_bound s v)
 
 -- Frames keep their length
 
@@ -574,10 +684,56 @@ long_rewritten : (frame : List ℕ) (flow : Flow) (address_place port_place addr
 long_rewritten frame flow address_place port_place address port =
     long_word _ _ _ ∙ long_long _ _ _ ∙ long_word _ _ _ ∙ long_word _ _ _
 
-long_out : (s : Settings) (bytes : List ℕ) (n : Noted) (seen : Result Flow NotFlow)
+long_exchanged : (frame : List ℕ) (checksum place number : ℕ)
+    → length (exchanged_long frame checksum place number) ≡ length frame
+long_exchanged frame checksum place number =
+    length-exchanged (exchanged_word frame checksum place (number / 65536)) checksum (place + 2) (number % 65536)
+    ∙ length-exchanged frame checksum place (number / 65536)
+
+long_transport : (frame : List ℕ) (error : IcmpError) (old_address address port_place port : ℕ)
+    → length (with_transport_checksum frame error old_address address port_place port) ≡ length frame
+long_transport frame error old_address address port_place port = by (has_transport_checksum error)
+  where
+    by : (b : Bool)
+        → length (if b then
+        exchanged_word frame (icmp_checksum error) (transport_checksum error)
+        (transport_sum frame error old_address address port_place port)
+        else frame) ≡ length frame
+    by true = length-exchanged frame (icmp_checksum error) (transport_checksum error)
+        (transport_sum frame error old_address address port_place port)
+    by false = refl
+
+long_addressed : (frame : List ℕ) (error : IcmpError) (place old_address address : ℕ)
+    → length (with_quoted_address frame error place old_address address) ≡ length frame
+long_addressed frame error place old_address address =
+    long_exchanged
+    (exchanged_word frame (icmp_checksum error) (quoted_checksum error) (header_sum frame error old_address address))
+    (icmp_checksum error) place address
+    ∙ length-exchanged frame (icmp_checksum error) (quoted_checksum error)
+    (header_sum frame error old_address address)
+
+long_error : (frame : List ℕ) (error : IcmpError) (outer_place quoted_place port_place address port : ℕ)
+    → length (rewritten_error frame error outer_place quoted_place port_place address port) ≡ length frame
+long_error frame error outer_place quoted_place port_place address port =
+    let old : ℕ = long_at frame quoted_place in
+    let outer : List ℕ = exchanged_long frame 24 outer_place address in
+    let transport : List ℕ = with_transport_checksum outer error old address port_place port in
+    long_addressed (exchanged_word transport (icmp_checksum error) port_place port) error quoted_place old address
+    ∙ length-exchanged transport (icmp_checksum error) port_place port
+    ∙ long_transport outer error old address port_place port
+    ∙ long_exchanged frame 24 outer_place address
+
+long_out : (s : Settings) (bytes : List ℕ) (n : Noted) (seen : Seen)
     → length (bytes_out s bytes n seen) ≡ length bytes
-long_out s bytes n (Err answer) = refl
-long_out s bytes n (Ok flow) = by n.class
+long_out s bytes n (OfNeither answer) = refl
+long_out s bytes n (OfError error) = by n.class
+  where
+    by : (c : Class) → length (error_out s c bytes error n) ≡ length bytes
+    by Outbound = refl
+    by Hairpin = refl
+    by Inbound = long_error bytes error 30 (source_place error) error.transport_at n.target.address n.target.port
+    by OutboundError = long_error bytes error 26 (dest_place error) (error.transport_at + 2) s.outside n.port
+long_out s bytes n (OfFlow flow) = by n.class
   where
     by : (c : Class) → length (frame_out s c bytes flow n) ≡ length bytes
     by Outbound = long_rewritten bytes flow 26 flow.transport_at s.outside n.port
@@ -586,6 +742,7 @@ long_out s bytes n (Ok flow) = by n.class
         n.target.port
         ∙ long_rewritten bytes flow 26 flow.transport_at s.outside n.port
     by Inbound = long_rewritten bytes flow 30 (flow.transport_at + 2) n.target.address n.target.port
+    by OutboundError = refl
 
 pub nat_lawful : (s : Settings) → AreSettings s → IsLawful (nat_meaning s) (Fits s)
 nat_lawful s is = record {
@@ -595,7 +752,7 @@ nat_lawful s is = record {
       (below_all s (place_numbered l.at) (noted l) is.some);
   reads_var = λ l v e. subst (λ (u : ℕ). u < 2 + 2 * s.shards) (reads_it s (place_numbered l.at) (noted l) v e)
       (below_all s (place_numbered l.at) (noted l) is.some);
-  begins = λ p. rw (rank_at (begun s (viewed p.bytes p.original))) (few_to_make s (viewed p.bytes p.original));
+  begins = λ p. rw (rank_at (begun s (seen_by s p))) (few_to_make s (seen_by s p));
   touch_falls = λ v x l e f. rw (rank_at (touched (place_numbered l.at) x (noted l)).1)
       (touch_falls_at s (place_numbered l.at) x (noted l) v e);
   look_falls = λ v x l e f.
@@ -610,5 +767,5 @@ nat_lawful s is = record {
   touch_fits = λ v x l e f. value_fits s v (noted l) (touched (place_numbered l.at) x (noted l)).0
       (touched_fits s (place_numbered l.at) x (noted l) v (is_noted l)
       (touches_it s (place_numbered l.at) (noted l) v e) f);
-  as_long = λ p l e. long_out s p.bytes (noted l) (viewed p.bytes p.original);
+  as_long = λ p l e. long_out s p.bytes (noted l) (seen_by s p);
 }

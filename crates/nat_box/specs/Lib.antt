@@ -1,5 +1,8 @@
 pub mod Places
+pub mod Statics
 pub mod Nat
+pub mod StaticLaws
+pub mod Starting
 pub mod Noting
 pub mod Lawful
 pub mod PortStanding

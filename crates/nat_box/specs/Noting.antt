@@ -6,9 +6,9 @@ use Rattle.nat_box.specs.declared.place.Place.{Place}
 use Rattle.nat_box.specs.declared.place.Place.TheVariants.{HearsTime, FindsMapping, UnbindsFreed, GivesBackFreed}
 use Rattle.nat_box.specs.declared.place.Place.TheVariants.{DrawsWord, ReservesPort, BindsPort, FindsOrBinds}
 use Rattle.nat_box.specs.declared.place.Place.TheVariants.{UnbindsLost, GivesBackLost, FindsEndpoint, AsksIfLives}
-use Rattle.nat_box.specs.declared.place.Place.TheVariants.{CountsDrop, SendsOut, Ends}
+use Rattle.nat_box.specs.declared.place.Place.TheVariants.{CountsDrop, SendsOut, Ends, FindsPort}
 use Rattle.nat_box.specs.declared.place.Class.{Class}
-use Rattle.nat_box.specs.declared.place.Class.TheVariants.{Outbound, Hairpin, Inbound}
+use Rattle.nat_box.specs.declared.place.Class.TheVariants.{Outbound, Hairpin, Inbound, OutboundError}
 use Rattle.nat_box.specs.declared.place.Noted.{Noted}
 use Rattle.nat_tables.specs.declared.phase.Segment.{Segment}
 use Rattle.nat_tables.specs.declared.phase.Segment.TheVariants.{Silent, Opens, Carries, Closes}
@@ -31,11 +31,13 @@ place_again AsksIfLives = refl
 place_again CountsDrop = refl
 place_again SendsOut = refl
 place_again Ends = refl
+place_again FindsPort = refl
 
 pub class_again : (c : Class) → class_of (number_of_class c) ≡ c
 class_again Outbound = refl
 class_again Hairpin = refl
 class_again Inbound = refl
+class_again OutboundError = refl
 
 pub segment_again : (g : Segment) → segment_numbered (number_of_segment g) ≡ g
 segment_again Silent = refl

@@ -10,9 +10,9 @@ use Rattle.nat_box.specs.declared.place.Place.{Place}
 use Rattle.nat_box.specs.declared.place.Place.TheVariants.{HearsTime, FindsMapping, UnbindsFreed, GivesBackFreed}
 use Rattle.nat_box.specs.declared.place.Place.TheVariants.{DrawsWord, ReservesPort, BindsPort, FindsOrBinds}
 use Rattle.nat_box.specs.declared.place.Place.TheVariants.{UnbindsLost, GivesBackLost, FindsEndpoint, AsksIfLives}
-use Rattle.nat_box.specs.declared.place.Place.TheVariants.{CountsDrop, SendsOut, Ends}
+use Rattle.nat_box.specs.declared.place.Place.TheVariants.{CountsDrop, SendsOut, Ends, FindsPort}
 use Rattle.nat_box.specs.declared.place.Class.{Class}
-use Rattle.nat_box.specs.declared.place.Class.TheVariants.{Outbound, Hairpin, Inbound}
+use Rattle.nat_box.specs.declared.place.Class.TheVariants.{Outbound, Hairpin, Inbound, OutboundError}
 use Rattle.nat_box.specs.declared.place.Noted.{Noted}
 
 -- the number of a place; each other number is the end
@@ -32,6 +32,7 @@ number_of AsksIfLives = 11
 number_of CountsDrop = 12
 number_of SendsOut = 13
 number_of Ends = 14
+number_of FindsPort = 15
 
 abbrev pub place_numbered : ℕ → Place
 place_numbered at =
@@ -39,15 +40,17 @@ place_numbered at =
     then GivesBackFreed else if at == 4 then DrawsWord else if at == 5 then ReservesPort else if at == 6 then BindsPort
     else if at == 7 then FindsOrBinds else if at == 8 then UnbindsLost else if at == 9 then GivesBackLost
     else if at == 10 then FindsEndpoint else if at == 11 then AsksIfLives else if at == 12 then CountsDrop
-    else if at == 13 then SendsOut else Ends
+    else if at == 13 then SendsOut else if at == 15 then FindsPort else Ends
 
 abbrev pub number_of_class : Class → ℕ
 number_of_class Outbound = 0
 number_of_class Hairpin = 1
 number_of_class Inbound = 2
+number_of_class OutboundError = 3
 
 abbrev pub class_of : ℕ → Class
-class_of number = if number == 0 then Outbound else if number == 1 then Hairpin else Inbound
+class_of number =
+    if number == 0 then Outbound else if number == 1 then Hairpin else if number == 3 then OutboundError else Inbound
 
 abbrev pub number_of_segment : Segment → ℕ
 number_of_segment Silent = 0

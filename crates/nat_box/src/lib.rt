@@ -5,6 +5,8 @@ mod laws;
 mod nat;
 mod place;
 mod program;
+mod seeing;
+mod statics;
 mod touching;
 mod translating;
 mod value;
@@ -12,6 +14,7 @@ mod value;
 pub use laws::{
     emissions_are_translations, entries_stand_for_one_endpoint, ports_stand_in_one_place,
 };
-pub use nat::NatBox;
+pub use nat::{NatBox, StaticPort};
 pub use place::{Class, Goes, Noted, Place};
+pub use seeing::Seen;
 pub use value::NatValue;

@@ -1,7 +1,22 @@
 ghost use Rattle.std.specs.Prelude.{◌≤◌, ◌<◌, ◌^◌};
 
 use crate::Class;
+use flow_boxes::ShortList;
+use icmp_errors::IcmpError;
 use nat_tables::{Endpoint, PortKey};
+
+/// An inside endpoint that always has this outside port.
+#[derive(Clone, Copy, Debug, PartialEq, Eq)]
+pub struct StaticPort {
+    /// 6 for TCP, 17 for UDP.
+    pub protocol: u8,
+    /// The inside address.
+    pub address: u32,
+    /// The inside port.
+    pub port: u16,
+    /// The outside port.
+    pub outside: u16,
+}
 
 /// The box `nat`: it gives endpoints of an inside network ports of one outside address (RFC 3022).
 ///
@@ -31,6 +46,10 @@ pub struct NatBox {
     /// REQ-5). Where there is no such number, connections are not followed, and each mapping is kept as its protocol
     /// says.
     pub closing: Option<u32>,
+    /// The inside endpoints that always have their outside ports, at most 64.
+    pub statics: ShortList<StaticPort>,
+    /// Whether errors of ICMP about packets of a used mapping go through (RFC 5508, REQ-3 to REQ-6).
+    pub errors: bool,
     pub ghost some: { 1 ≤ shards },
     pub ghost few: { shards ≤ 64 },
     pub ghost long: { 1 ≤ length },
@@ -42,8 +61,10 @@ pub struct NatBox {
 
 impl NatBox {
     ghost use Rattle.std.specs.Prelude.{◌≡◌, ◌≤◌};
-    ghost use Rattle.nat_box.specs.Nat.{is_inside, class_of_flow, forward_table, reverse_table};
+    ghost use Rattle.nat_box.specs.Nat.{is_inside, class_of_flow, class_of_error};
+    ghost use Rattle.nat_box.specs.Nat.{forward_table, reverse_table};
     ghost use Rattle.nat_box.specs.Boxes.{settings_of, box_with, with_closing};
+    ghost use Rattle.nat_box.specs.Boxes.{with_statics, with_errors};
 
     /// The box with this number of tables of each kind, this inside network, outside address and range of outside
     /// ports. It does not follow connections.
@@ -64,6 +85,13 @@ impl NatBox {
             low,
             high,
             closing: None,
+            statics: ShortList::new(StaticPort {
+                protocol: 0,
+                address: 0,
+                port: 0,
+                outside: 0,
+            }),
+            errors: false,
         }
     }
 
@@ -79,6 +107,42 @@ impl NatBox {
             low: self.low,
             high: self.high,
             closing,
+            statics: self.statics,
+            errors: self.errors,
+        }
+    }
+
+    /// The same box, where these inside endpoints always have their outside ports.
+    pub fn with_statics(self, statics: ShortList<StaticPort>) -> Self
+        ensures { result ≡ with_statics statics self }
+    {
+        NatBox {
+            shards: self.shards,
+            inside: self.inside,
+            length: self.length,
+            outside: self.outside,
+            low: self.low,
+            high: self.high,
+            closing: self.closing,
+            statics,
+            errors: self.errors,
+        }
+    }
+
+    /// The same box, which lets errors of ICMP through or not.
+    pub fn with_errors(self, errors: bool) -> Self
+        ensures { result ≡ with_errors errors self }
+    {
+        NatBox {
+            shards: self.shards,
+            inside: self.inside,
+            length: self.length,
+            outside: self.outside,
+            low: self.low,
+            high: self.high,
+            closing: self.closing,
+            statics: self.statics,
+            errors,
         }
     }
 
@@ -100,6 +164,18 @@ impl NatBox {
             (true, false) => Some(Class::Outbound),
             (false, true) => Some(Class::Inbound),
             (false, false) => None,
+        }
+    }
+
+    /// The class of an error of ICMP; None where it is dropped as stray.
+    pub(crate) fn class_of_error(&self, error: &IcmpError) -> Option<Class>
+        ensures { result ≡ class_of_error (settings_of self.now) error.now }
+    {
+        match (self.is_inside(error.source), error.dest == self.outside) {
+            (true, false) if self.is_inside(error.dest) => None,
+            (true, false) if self.is_inside(error.quoted_dest) => Some(Class::OutboundError),
+            (false, true) if error.quoted_source == self.outside => Some(Class::Inbound),
+            (true, _) | (false, _) => None,
         }
     }
 

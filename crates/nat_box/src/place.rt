@@ -33,6 +33,8 @@ pub enum Place {
     FindsEndpoint,
     /// It reads whether this endpoint's mapping to the port lives.
     AsksIfLives,
+    /// It reads which port its source is mapped to: an error of ICMP about a packet that came in.
+    FindsPort,
     /// It is counted as dropped.
     CountsDrop,
     /// It goes out.
@@ -62,6 +64,7 @@ impl Place {
             Place::CountsDrop => 12,
             Place::SendsOut => 13,
             Place::Ends => 14,
+            Place::FindsPort => 15,
         }
     }
 
@@ -84,6 +87,7 @@ impl Place {
             11 => Place::AsksIfLives,
             12 => Place::CountsDrop,
             13 => Place::SendsOut,
+            15 => Place::FindsPort,
             _ => Place::Ends,
         }
     }
@@ -98,6 +102,8 @@ pub enum Class {
     Hairpin,
     /// From outside to the outside address.
     Inbound,
+    /// An error of ICMP from inside to outside, about a packet that came in (RFC 5508, REQ-5).
+    OutboundError,
 }
 
 impl Class {
@@ -108,6 +114,7 @@ impl Class {
             Class::Outbound => 0,
             Class::Hairpin => 1,
             Class::Inbound => 2,
+            Class::OutboundError => 3,
         }
     }
 
@@ -117,6 +124,7 @@ impl Class {
         match number {
             0 => Class::Outbound,
             1 => Class::Hairpin,
+            3 => Class::OutboundError,
             _ => Class::Inbound,
         }
     }

@@ -3,8 +3,6 @@ ghost use Rattle.std.specs.Prelude.{◌≡◌};
 use crate::{Goes, NatBox, NatValue, Noted, Place};
 use box_program::{Local, Move, Program};
 use flow_boxes::Drops;
-use nat_tables::{Forward, Pool, Reverse};
-use packet_headers::view;
 use plain_text::{Bytes, NoMemory, Packet, Text};
 use std::alloc::Global;
 
@@ -29,16 +27,16 @@ impl Program for NatBox {
         if var == 0 {
             Ok(NatValue::Dropped(Drops::new()))
         } else if var == 1 {
-            Ok(NatValue::Free(Pool::new(alloc, self.low, self.high)?))
+            Ok(NatValue::Free(self.fresh_pool(alloc)?))
         } else if var < 2 + self.shards {
-            Ok(NatValue::Mapped(Forward::new(alloc)))
+            Ok(NatValue::Mapped(self.fresh_mappings(alloc, var)?))
         } else {
-            Ok(NatValue::Taken(Reverse::new(alloc)))
+            Ok(NatValue::Taken(self.fresh_bound(alloc, var)?))
         }
     }
 
     fn begin(&self, packet: &Packet) -> Local {
-        self.begun(view(packet.bytes.as_slice(), packet.original))
+        self.begun(self.seen(packet.bytes.as_slice(), packet.original))
             .local()
     }
 
@@ -57,6 +55,7 @@ impl Program for NatBox {
             Place::BindsPort => Move::Access(self.reverse_table(&noted.source_key())),
             Place::FindsEndpoint => Move::Read(self.reverse_table(&noted.dest_key())),
             Place::AsksIfLives => Move::Read(self.forward_table(&noted.target)),
+            Place::FindsPort => Move::Read(self.forward_table(&noted.source)),
             Place::CountsDrop => Move::Access(0),
             Place::SendsOut => Move::Emit,
             Place::Ends => Move::End,
@@ -107,7 +106,7 @@ impl Program for NatBox {
     }
 
     fn packet_out(&self, alloc: Global, packet: &Packet, local: &Local) -> Result<Bytes, NoMemory> {
-        let seen = view(packet.bytes.as_slice(), packet.original);
+        let seen = self.seen(packet.bytes.as_slice(), packet.original);
         self.sent(
             alloc,
             packet.bytes.as_slice(),

@@ -1,6 +1,8 @@
 ghost use Rattle.std.specs.Prelude.{◌≡◌, IfOk, OnErr};
 ghost use Rattle.nat_box.specs.Nat.{goes, dropped, mapped, after_find, after_reserve, after_bind};
 ghost use Rattle.nat_box.specs.Nat.{touched, after_endpoint, looked, told, followed_by};
+ghost use Rattle.nat_box.specs.Nat.{looked_by, used_port, after_port};
+ghost use Rattle.nat_tables.specs.Forwards.{lives};
 ghost use Rattle.nat_box.specs.Boxes.{settings_of};
 ghost use Rattle.nat_box.specs.declared.value.NatValue.TheVariants.{Dropped, Free, Mapped, Taken};
 
@@ -43,7 +45,9 @@ impl Noted {
     {
         match self.class {
             Class::Hairpin => Goes::to(Place::FindsEndpoint, self),
-            Class::Outbound | Class::Inbound => Goes::to(Place::SendsOut, self),
+            Class::Outbound | Class::Inbound | Class::OutboundError => {
+                Goes::to(Place::SendsOut, self)
+            }
         }
     }
 
@@ -99,6 +103,37 @@ impl Noted {
                 Goes::to(Place::AsksIfLives, Noted { target, ..self })
             }
             None => self.dropped(NO_MAPPING),
+        }
+    }
+
+    /// The port of its source's mapping, where there is one that is not idle. It refreshes nothing.
+    fn used_port(&self, table: &Forward) -> Option<u16>
+        ensures { result ≡ used_port self.now.source self.now.time table.now }
+    {
+        match table.slot_of(&self.source) {
+            Some(slot) if !slot.is_idle(&self.source, self.time) => Some(slot.port),
+            Some(_) | None => None,
+        }
+    }
+
+    fn after_port(self, found: Option<u16>) -> Goes
+        ensures { result ≡ after_port self found }
+    {
+        match found {
+            Some(port) => Goes::to(Place::SendsOut, Noted { port, ..self }),
+            None => self.dropped(NO_MAPPING),
+        }
+    }
+
+    /// Whether the mapping of the endpoint that it goes to lives in a forward table.
+    fn after_asking(self, table: &Forward) -> Goes
+        ensures { result
+            ≡ looked_by self (lives self.target self.dest_port self.time table.now) }
+    {
+        if table.lives(&self.target, self.dest_port, self.time) {
+            Goes::to(Place::SendsOut, self)
+        } else {
+            self.dropped(NO_MAPPING)
         }
     }
 
@@ -171,17 +206,15 @@ impl Noted {
         }
     }
 
-    /// Reads a forward table: whether the mapping of the endpoint that the packet goes to lives. It refreshes nothing.
+    /// Reads a forward table: whether the mapping of the endpoint that the packet goes to lives; or, of an error that
+    /// goes out, the port of its source. It refreshes nothing.
     pub(crate) fn look_at_mappings(self, place: Place, table: &Forward) -> Goes
         ensures { result ≡ looked place (Mapped table.now) self }
     {
-        if place != Place::AsksIfLives {
-            return Goes::to(Place::Ends, self);
-        }
-        if table.lives(&self.target, self.dest_port, self.time) {
-            Goes::to(Place::SendsOut, self)
-        } else {
-            self.dropped(NO_MAPPING)
+        match place {
+            Place::AsksIfLives => self.after_asking(table),
+            Place::FindsPort => self.after_port(self.used_port(table)),
+            _ => Goes::to(Place::Ends, self),
         }
     }
 
@@ -208,6 +241,7 @@ impl Noted {
                 match self.class {
                     Class::Outbound | Class::Hairpin => Goes::to(Place::FindsMapping, noted),
                     Class::Inbound => Goes::to(Place::FindsEndpoint, noted),
+                    Class::OutboundError => Goes::to(Place::FindsPort, noted),
                 }
             }
             Place::DrawsWord => Goes::to(

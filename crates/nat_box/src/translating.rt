@@ -1,13 +1,17 @@
 ghost use Rattle.std.specs.Prelude.{◌≡◌, IfOk};
 ghost use Rattle.packet_headers.specs.Rewriting.{CanRewrite};
-ghost use Rattle.nat_box.specs.Nat.{begun, frame_out, bytes_out, noted_flow, nothing_noted};
+ghost use Rattle.icmp_errors.specs.ErrorView.{IsErrorFrame};
+ghost use Rattle.nat_box.specs.Nat.{begun, begun_as, frame_out, error_out, bytes_out};
+ghost use Rattle.nat_box.specs.Nat.{noted_flow, nothing_noted, FitsSeen};
 ghost use Rattle.nat_box.specs.Nat.{segment_of, segment_told};
 ghost use Rattle.nat_box.specs.Boxes.{settings_of};
 
-use crate::{Class, Goes, NatBox, Noted, Place};
+use crate::seeing::flow_of_error;
+use crate::{Class, Goes, NatBox, Noted, Place, Seen};
 use flow_boxes::{STRAY, reason_of};
+use icmp_errors::{IcmpError, set_quoted_dest, set_quoted_source};
 use nat_tables::{Endpoint, PortKey, Segment};
-use packet_headers::{Flow, NotFlow, set_dest, set_source};
+use packet_headers::{Flow, set_dest, set_source};
 use plain_text::{Bytes, NoMemory};
 use std::alloc::Global;
 
@@ -98,19 +102,32 @@ impl NatBox {
         }
     }
 
-    /// Where a packet begins, by its view.
-    pub(crate) fn begun(&self, seen: Result<Flow, NotFlow>) -> Goes
+    /// Where a flow of this class begins, or one that is stray.
+    fn begun_as(&self, flow: &Flow, class: Option<Class>) -> Goes
+        ensures { result
+            ≡ begun_as (segment_told (settings_of self.now).closing flow.now.flags) flow.now class }
+    {
+        match class {
+            Some(class) => {
+                let segment = self.segment_told(flow.flags);
+                Goes::to(Place::HearsTime, Noted::flow(flow, class, segment))
+            }
+            None => Goes::to(Place::CountsDrop, Noted::reason(STRAY)),
+        }
+    }
+
+    /// Where a packet begins, by what it is seen as.
+    pub(crate) fn begun(&self, seen: Seen) -> Goes
         ensures { result ≡ begun (settings_of self.now) seen }
     {
         match seen {
-            Ok(flow) => match self.class_of(flow.source, flow.dest) {
-                Some(class) => {
-                    let segment = self.segment_told(flow.flags);
-                    Goes::to(Place::HearsTime, Noted::flow(&flow, class, segment))
-                }
-                None => Goes::to(Place::CountsDrop, Noted::reason(STRAY)),
-            },
-            Err(answer) => Goes::to(Place::CountsDrop, Noted::reason(reason_of(answer))),
+            Seen::OfFlow(flow) => self.begun_as(&flow, self.class_of(flow.source, flow.dest)),
+            Seen::OfError(error) => {
+                self.begun_as(&flow_of_error(&error), self.class_of_error(&error))
+            }
+            Seen::OfNeither(answer) => {
+                Goes::to(Place::CountsDrop, Noted::reason(reason_of(answer)))
+            }
         }
     }
 
@@ -129,6 +146,23 @@ impl NatBox {
                 set_source(frame, flow, self.outside, noted.port);
                 set_dest(frame, flow, target.address, target.port);
             }
+            Class::OutboundError => {}
+        }
+    }
+
+    /// Translates an error of ICMP with the packet that it quotes: an inbound one goes to the endpoint from which that
+    /// packet came (RFC 5508, REQ-4), an outbound one comes from the outside address, to which it went, and to its
+    /// source's port (REQ-5).
+    fn translate_error(&self, frame: &mut [u8], error: &IcmpError, noted: &Noted)
+        requires { IsErrorFrame frame.old error.now }
+        ensures { frame.new
+            ≡ error_out (settings_of self.now) noted.now.class frame.old error.now noted.now }
+    {
+        let target = &noted.target;
+        match noted.class {
+            Class::Inbound => set_quoted_source(frame, error, target.address, target.port),
+            Class::OutboundError => set_quoted_dest(frame, error, self.outside, noted.port),
+            Class::Outbound | Class::Hairpin => {}
         }
     }
 
@@ -149,21 +183,39 @@ impl NatBox {
         Ok(Bytes::from_vec(copy))
     }
 
-    /// The bytes that go out of a packet with these bytes, by its view.
+    /// A copy of an error's frame, translated.
+    fn error_translated(
+        &self,
+        alloc: Global,
+        frame: &[u8],
+        error: &IcmpError,
+        noted: &Noted,
+    ) -> Result<Bytes, NoMemory>
+        requires { IsErrorFrame frame.now error.now }
+        ensures { IfOk result (λ bytes. bytes
+            ≡ error_out (settings_of self.now) noted.now.class frame.now error.now noted.now) }
+    {
+        let mut copy = Vec::from_slice(alloc, frame)?;
+        self.translate_error(&mut copy, error, noted);
+        Ok(Bytes::from_vec(copy))
+    }
+
+    /// The bytes that go out of a packet with these bytes, by what it is seen as.
     pub(crate) fn sent(
         &self,
         alloc: Global,
         frame: &[u8],
-        seen: Result<Flow, NotFlow>,
+        seen: Seen,
         noted: &Noted,
     ) -> Result<Bytes, NoMemory>
-        requires { IfOk seen (λ flow. CanRewrite frame.now flow) }
+        requires { FitsSeen frame.now seen }
         ensures { IfOk result (λ bytes. bytes
             ≡ bytes_out (settings_of self.now) frame.now noted.now seen) }
     {
         match seen {
-            Ok(flow) => self.translated(alloc, frame, &flow, noted),
-            Err(_) => Bytes::of(alloc, frame),
+            Seen::OfFlow(flow) => self.translated(alloc, frame, &flow, noted),
+            Seen::OfError(error) => self.error_translated(alloc, frame, &error, noted),
+            Seen::OfNeither(_) => Bytes::of(alloc, frame),
         }
     }
 }

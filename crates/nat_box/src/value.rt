@@ -6,7 +6,8 @@ use nat_tables::{Forward, Pool, Reverse};
 pub enum NatValue {
     /// Of variable 0: how many packets were dropped, by reason. Reasons 1 to 6 are those for which a frame is no flow.
     /// 7 is a packet to a port with no mapping, 8 one for which no port was free, 9 one that neither comes from inside
-    /// nor goes to the outside address, or goes from inside to inside.
+    /// nor goes to the outside address, or goes from inside to inside. Where errors of ICMP go through, 7 is also one
+    /// about a packet of no used mapping, and 9 one about no packet that the box may have translated.
     Dropped(Drops),
     /// Of variable 1: the free outside ports.
     Free(Pool),

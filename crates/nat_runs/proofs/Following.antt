@@ -1,6 +1,7 @@
 -- Connections are followed as the settings say.
-use Rattle.std.proofs.Common.{◌≡◌, ℕ, ◌+◌, ◌*◌, ◌<◌, List, refl, sym, ap, ◌∙◌, subst, Option, Some, None}
-use Rattle.std.specs.Prelude.{Ok}
+use Rattle.std.proofs.Common.{◌≡◌, ℕ, ◌+◌, ◌*◌, ◌<◌, List, refl, sym, ap, ◌∙◌, subst, ◌⊎◌, inl, inr, Option, Some, None}
+use Rattle.std.specs.Prelude.{Result, Ok, Err}
+use Rattle.packet_headers.specs.declared.flow.NotFlow.{NotFlow}
 use Rattle.plain_text.specs.declared.packet.Packet.{Packet}
 use Rattle.packet_headers.specs.declared.flow.Flow.{Flow}
 use Rattle.plain_machine.specs.History.{Step, value_after, IsHistory}
@@ -9,6 +10,7 @@ use Rattle.nat_tables.specs.declared.entries.Endpoint.{Endpoint}
 use Rattle.nat_tables.specs.declared.slot.Slot.{Slot}
 use Rattle.nat_tables.specs.declared.phase.Phase.{Phase}
 use Rattle.nat_tables.specs.declared.phase.Phase.TheVariants.{Plain, Opening, Established, Closing}
+use Rattle.nat_tables.specs.declared.phase.Phase.TheVariants.{EndedByClient, EndedByServer, Kept}
 use Rattle.nat_tables.specs.declared.phase.Segment.TheVariants.{Silent}
 use Rattle.nat_tables.specs.Forwards.{Forwards}
 use Rattle.nat_box.specs.declared.place.Class.{Class}
@@ -16,7 +18,7 @@ use Rattle.nat_box.specs.declared.place.Noted.{Noted}
 use Rattle.nat_box.specs.declared.value.NatValue.{NatValue}
 use Rattle.nat_box.specs.declared.value.NatValue.TheVariants.{Dropped, Free, Mapped, Taken}
 use Rattle.nat_box.specs.Places.{place_numbered, noted}
-use Rattle.nat_box.specs.Nat.{Settings, class_of_flow, segment_told, begun_as, begun, touched, followed_by, followed}
+use Rattle.nat_box.specs.Nat.{Settings, flow_in, class_in, segment_told, begun_by, begun, touched, followed_by, followed}
 use Rattle.nat_box.specs.Nat.{local_at, nat_meaning, HasPhase, MayMap, Fits}
 use Rattle.nat_box.specs.Lawful.{AreSettings, nat_lawful}
 use Rattle.nat_box.specs.Sentences.{Has, mappings_in}
@@ -30,6 +32,9 @@ phase_is closing protocol Plain is = tt
 phase_is closing protocol (Opening seconds) is = is
 phase_is closing protocol Established is = is
 phase_is closing protocol (Closing seconds) is = is
+phase_is closing protocol EndedByClient is = is
+phase_is closing protocol EndedByServer is = is
+phase_is closing protocol Kept is = tt
 
 mapping_phase : (s : Settings) (v : ℕ) (x : NatValue) (key : Endpoint) (slot : Slot) → Fits s v x
     → Has (mappings_in x) (key, slot) → HasPhase s.closing key.protocol slot.phase
@@ -45,11 +50,14 @@ followed_by_the_line s threads inputs steps v key slot is h there =
     (mapping_phase s v (value_after (nat_meaning s) steps v) key slot (fits v there.0) there.1)
 
 none_followed : (closing : Option ℕ) (protocol : ℕ) (phase : Phase) → closing ≡ None
-    → IsFollowedBy closing protocol phase → phase ≡ Plain
-none_followed closing protocol Plain none is = refl
+    → IsFollowedBy closing protocol phase → (phase ≡ Plain) ⊎ (phase ≡ Kept)
+none_followed closing protocol Plain none is = inl refl
 none_followed closing protocol (Opening seconds) none is = absurd (let e : None ≡ Some seconds = sym none ∙ is.0 in cc)
 none_followed closing protocol Established none is = absurd (let e : None ≡ Some is.0 = sym none ∙ is.1 in cc)
 none_followed closing protocol (Closing seconds) none is = absurd (let e : None ≡ Some seconds = sym none ∙ is.0 in cc)
+none_followed closing protocol EndedByClient none is = absurd is
+none_followed closing protocol EndedByServer none is = absurd is
+none_followed closing protocol Kept none is = inr refl
 
 pub none_followed_without_it : NoneFollowedWithoutIt
 none_followed_without_it s threads inputs steps v key slot is h none there =
@@ -70,8 +78,9 @@ touches_as_before s none v x l =
     ap (λ (left : NatValue). (left, local_at r.1)) (not_followed s (noted l) r.0 none)
 
 pub begins_as_before : BeginsAsBefore
-begins_as_before s none flow = by (class_of_flow s flow.source flow.dest)
+begins_as_before s none seen = by (flow_in seen) (class_in s seen)
   where
-    by : (o : Option Class) → (begun_as (segment_told s.closing flow.flags) flow o).noted.segment ≡ Silent
-    by None = refl
-    by (Some class) = ap (λ (c : Option ℕ). segment_told c flow.flags) none
+    by : (r : Result Flow NotFlow) (o : Option Class) → (begun_by s r o).noted.segment ≡ Silent
+    by (Err answer) o = refl
+    by (Ok flow) None = refl
+    by (Ok flow) (Some class) = ap (λ (c : Option ℕ). segment_told c flow.flags) none

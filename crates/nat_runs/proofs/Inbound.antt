@@ -1,9 +1,8 @@
 -- An inbound packet changes no table and not the pool.
 use Rattle.std.proofs.Common.{◌≡◌, ℕ, ◌+◌, ◌*◌, ◌<◌, ◌≤◌, Bool, false, List, refl, sym, ap, ◌∙◌, subst}
-use Rattle.std.proofs.Common.{arith, Option, Some, None}
-use Rattle.std.specs.Prelude.{cond, nat_eq, Ok}
+use Rattle.std.proofs.Common.{◌⊎◌, inl, inr, arith, Option, Some, None}
+use Rattle.std.specs.Prelude.{cond, nat_eq}
 use Rattle.plain_text.specs.declared.packet.Packet.{Packet}
-use Rattle.packet_headers.specs.declared.flow.Flow.{Flow}
 use Rattle.plain_machine.specs.declared.local.Move.TheVariants.{Access}
 use Rattle.plain_machine.specs.Machine.{Hand, Thread, Effect, Moves, held_move}
 use Rattle.plain_machine.specs.History.{Step, act_of, left_by, thread_after, value_after}
@@ -14,28 +13,31 @@ use Rattle.nat_box.specs.declared.place.Class.TheVariants.{Inbound}
 use Rattle.nat_box.specs.declared.place.Noted.{Noted}
 use Rattle.nat_box.specs.declared.value.NatValue.{NatValue}
 use Rattle.nat_box.specs.Places.{noted}
-use Rattle.nat_box.specs.Nat.{Settings, class_of_flow, touched, followed, nat_meaning, Fits}
+use Rattle.nat_box.specs.Nat.{Settings, touched, followed, nat_meaning, Fits}
 use Rattle.nat_box.specs.Lawful.{AreSettings, var_of, touches_it, nat_lawful}
 use Rattle.nat_box.proofs.Making.{comes_to}
 use Rattle.nat_runs.specs.Met.{Met, met_of}
-use Rattle.nat_runs.specs.Inbound.{IsInbound, InboundChangesNoTable}
+use Rattle.nat_runs.specs.Inbound.{IsInbound, IsError, InboundChangesNoTable}
+use Rattle.nat_box.proofs.SeenAs.{no_error, class_is_seen}
 use Rattle.nat_runs.proofs.ThreadMoves.{TouchKind, finds, unbinds_freed, gives_freed, reserves, binds, finds_or_binds}
 use Rattle.nat_runs.proofs.ThreadMoves.{unbinds_lost, gives_lost, counts, touch_kind, at, touched_below, by_move}
 use Rattle.nat_box.proofs.Emissions.{IsOutward}
-use Rattle.nat_runs.proofs.Knowing.{IsOnWay, KnownAt, Known, run_known}
+use Rattle.nat_runs.proofs.Knowing.{outward_flow, IsOnWay, KnownAt, Known, run_known}
 
 -- an inbound packet is not on its way to a mapping of its source
-not_on_way : (s : Settings) (m : Met) (p : Packet) (n : Noted) → IsInbound s p → IsOnWay s m p n → ⊥
-not_on_way s m p n inbound on =
-    let seen : Ok inbound.0 ≡ Ok on.0.flow = sym inbound.1 ∙ on.0.seen in
-    let flow : inbound.0 ≡ on.0.flow = cc in
-    let same : Some Inbound ≡ Some n.class =
-    sym inbound.2 ∙ ap (λ (f : Flow). class_of_flow s f.source f.dest) flow ∙ on.0.class in
+not_on_way : (s : Settings) (m : Met) (p : Packet) (n : Noted) → IsInbound s p ⊎ IsError p → IsOnWay s m p n → ⊥
+not_on_way s m p n (inl inbound) on =
+    let same : Some n.class ≡ Some Inbound =
+    sym on.0.class ∙ class_is_seen s p inbound.0 inbound.1 ∙ inbound.2 in
     let class : n.class ≡ Inbound = cc in
     subst IsOutward class on.2
+not_on_way s m p n (inr error) on =
+    let both : None ≡ Some error.0 =
+    sym (no_error p.bytes p.original on.0.flow (outward_flow s p n on.0 on.2).0) ∙ error.1 in
+    absurd (cc)
 
 touches_counts : (s : Settings) (m : Met) (p : Packet) (place : Place) (x : NatValue) (n : Noted) → TouchKind place x
-    → IsInbound s p → KnownAt s m p place n → var_of s place n ≡ 0
+    → IsInbound s p ⊎ IsError p → KnownAt s m p place n → var_of s place n ≡ 0
 touches_counts s m p _ _ n (finds es) i k = absurd (not_on_way s m p n i k)
 touches_counts s m p _ _ n (unbinds_freed bs) i k = absurd (not_on_way s m p n i k)
 touches_counts s m p _ _ n (gives_freed pool) i k = absurd (not_on_way s m p n i k)
@@ -51,13 +53,14 @@ module _ (s : Settings) (is : AreSettings s) (packets : List Packet) (value : �
     (fits : (v : ℕ) → v < 2 + 2 * s.shards → Fits s v (value v)) (m : Met) (v : ℕ) (some : 1 ≤ v) where
   abbrev IfInbound : Option Hand → Type 0
   IfInbound None = ⊥
-  IfInbound (Some h) = IsInbound s h.packet
+  IfInbound (Some h) = IsInbound s h.packet ⊎ IsError h.packet
 
   abbrev Keeps : Option Hand → Option Hand → Effect NatValue → Type 0
   Keeps before after d =
       Known s m before → IfInbound before → left_by v (act_of t earlier taken_then d) (value v) ≡ value v
 
-  at_touch : (h : Hand) (w : ℕ) → comes_to s h (Access w) → Known s m (Some h) → IsInbound s h.packet
+  at_touch : (h : Hand) (w : ℕ) → comes_to s h (Access w) → Known s m (Some h)
+      → IsInbound s h.packet ⊎ IsError h.packet
       → cond (nat_eq w v) (followed s (noted h.place) (touched (at h) (value w) (noted h.place)).0) (value v)
       ≡ value v
   at_touch h w move k inbound =

@@ -9,9 +9,8 @@ use Rattle.packet_headers.specs.declared.flow.Flow.{Flow}
 use Rattle.packet_headers.specs.declared.flow.NotFlow.{NotFlow}
 use Rattle.packet_headers.specs.declared.flow.NotFlow.TheVariants.{Short, NotIpv4, BadHeaderLength, Fragment}
 use Rattle.packet_headers.specs.declared.flow.NotFlow.TheVariants.{OtherProtocol, BadTotalLength}
-use Rattle.packet_headers.specs.Fields.{AreBytes, header_end}
-use Rattle.packet_headers.specs.View.{viewed, flow_of, failures}
-use Rattle.packet_headers.proofs.FirstFailure.{pass_from_ok}
+use Rattle.packet_headers.specs.Fields.{AreBytes}
+use Rattle.packet_headers.specs.View.{viewed}
 use Rattle.plain_machine.specs.Machine.{Hand, Thread, Effect, Moves, held_move}
 use Rattle.plain_machine.specs.History.{Step, act_of, thread_after, value_after, IsHistory}
 use Rattle.plain_machine.proofs.Histories.{not_eq, is_eq}
@@ -35,18 +34,19 @@ use Rattle.nat_box.specs.declared.place.Place.{Place}
 use Rattle.nat_box.specs.declared.place.Place.TheVariants.{HearsTime, FindsMapping, UnbindsFreed, GivesBackFreed}
 use Rattle.nat_box.specs.declared.place.Place.TheVariants.{DrawsWord, ReservesPort, BindsPort, FindsOrBinds}
 use Rattle.nat_box.specs.declared.place.Place.TheVariants.{UnbindsLost, GivesBackLost, FindsEndpoint, AsksIfLives}
-use Rattle.nat_box.specs.declared.place.Place.TheVariants.{CountsDrop, SendsOut, Ends}
+use Rattle.nat_box.specs.declared.place.Place.TheVariants.{CountsDrop, SendsOut, Ends, FindsPort}
 use Rattle.nat_box.specs.declared.place.Class.{Class}
-use Rattle.nat_box.specs.declared.place.Class.TheVariants.{Outbound, Hairpin, Inbound}
+use Rattle.nat_box.specs.declared.place.Class.TheVariants.{Outbound, Hairpin, Inbound, OutboundError}
 use Rattle.nat_box.specs.declared.place.Noted.{Noted}
 use Rattle.nat_box.specs.declared.value.NatValue.{NatValue}
 use Rattle.nat_box.specs.declared.value.NatValue.TheVariants.{Dropped, Free, Mapped, Taken}
 use Rattle.flow_boxes.specs.Flows.{endpoint, source_of}
 use Rattle.nat_box.specs.Places.{place_numbered, noted, dest_key, local_of, number_of_segment, segment_numbered}
 use Rattle.nat_box.specs.declared.place.Goes.{Goes}
-use Rattle.nat_box.specs.Nat.{Settings, goes, forward_table, reverse_table, class_of_flow, noted_flow}
+use Rattle.nat_box.specs.Nat.{Settings, goes, forward_table, reverse_table, class_of_flow, flow_in, class_in, flow_seen}
+use Rattle.nat_box.specs.Nat.{class_seen, seen_by, noted_flow, used_port, after_port}
 use Rattle.flow_boxes.specs.Drops.{reason_of}
-use Rattle.nat_box.specs.Nat.{begun_as, segment_told, followed_by, followed}
+use Rattle.nat_box.specs.Nat.{begun_by, segment_told, followed_by, followed}
 use Rattle.nat_box.specs.Nat.{begun, mapped, after_find, after_reserve, after_bind, touched, after_endpoint, looked_by}
 use Rattle.nat_box.specs.Nat.{looked, after_time, told, local_at, nat_meaning, MayMap, MayBind, Fits}
 use Rattle.nat_box.specs.Noting.{place_again, class_again, segment_again, IsNoted, is_noted, noted_again}
@@ -61,16 +61,19 @@ use Rattle.nat_runs.specs.Met.{Met, nothing_met, met_by_touch, met_by_read, met_
 use Rattle.nat_runs.specs.Causes.{IsUnbound, HasNoneUsed, FoundNoneUsed, Cause}
 use Rattle.nat_runs.proofs.TableEntries.{endpoint_in, not_bound, AreIdle, lives_not, may_endpoint, may_mapping}
 use Rattle.nat_runs.proofs.TableEntries.{none_free}
-use Rattle.flow_boxes.proofs.Fitting.{word_fits, long_fits, slot_refreshed, slot_bound}
-use Rattle.nat_box.proofs.Emissions.{IsOutward, IsInward, IfOutward, worded, targeted}
+use Rattle.flow_boxes.proofs.Fitting.{slot_refreshed, slot_bound}
+use Rattle.nat_box.proofs.SeenAs.{flow_whole, same_flow, seen_flow}
+use Rattle.nat_box.proofs.UsedPorts.{unused_lives_not}
+use Rattle.nat_box.proofs.Emissions.{IsOutward, IsInward, IfOutward, worded, targeted, port_noted, small_used}
 use Rattle.nat_runs.proofs.ThreadMoves.{TouchKind, finds, unbinds_freed, gives_freed, reserves, binds, finds_or_binds}
-use Rattle.nat_runs.proofs.ThreadMoves.{unbinds_lost, gives_lost, counts, LookKind, finds_endpoint, asks, touch_kind}
+use Rattle.nat_runs.proofs.ThreadMoves.{unbinds_lost, gives_lost, counts, LookKind, finds_endpoint, asks, finds_port}
+use Rattle.nat_runs.proofs.ThreadMoves.{touch_kind}
 use Rattle.nat_runs.proofs.ThreadMoves.{look_kind, at_clock, at_draw, at, touched_below, read_below, by_move}
 
 pub record IsBase (s : Settings) (p : Packet) (n : Noted) : Type 0 where
   pub flow : Flow
-  pub seen : viewed p.bytes p.original ≡ Ok flow
-  pub class : class_of_flow s flow.source flow.dest ≡ Some n.class
+  pub seen : flow_seen s p ≡ Ok flow
+  pub class : class_seen s p ≡ Some n.class
   pub source : AreBytes p.bytes → n.source ≡ source_of flow
   pub dest_port : AreBytes p.bytes → n.dest_port ≡ flow.dest_port
   pub segment : AreBytes p.bytes → n.segment ≡ segment_told s.closing flow.flags
@@ -112,6 +115,7 @@ KnownAt s m p AsksIfLives n = IsTold s m p n × IsInward n.class × IfOutward n.
 KnownAt s m p CountsDrop n = IsToCount s m p n
 KnownAt s m p SendsOut n = IsTold s m p n × IfOutward n.class (Refreshed m n)
 KnownAt s m p Ends n = Unit {0}
+KnownAt s m p FindsPort n = IsTold s m p n × (n.class ≡ OutboundError)
 
 abbrev pub Known : Settings → Met → Option Hand → Type 0
 Known s m None = Unit {0}
@@ -144,6 +148,7 @@ time_noted : (n : Noted) (c : Class) → IsNoted n → IsNoted (after_time n c).
 time_noted n Outbound is = is
 time_noted n Hairpin is = is
 time_noted n Inbound is = is
+time_noted n OutboundError is = is
 
 looked_noted : (s : Settings) (v : ℕ) (place : Place) (x : NatValue) (n : Noted) → LookKind place x → Fits s v x
     → IsNoted n → IsNoted (looked place x n).noted
@@ -159,6 +164,8 @@ looked_noted s v _ _ n (asks es) fits is = by (lives n.target n.dest_port n.time
     by : (b : Bool) → IsNoted (looked_by n b).noted
     by true = is
     by false = worded n 7 is
+looked_noted s v _ _ n (finds_port es) fits is =
+    port_noted n (used_port n.source n.time es) is (small_used s v n.source n.time es fits.2)
 
 -- The variable of an entry
 
@@ -182,22 +189,36 @@ free_elsewhere s v (Free pool) k fits other = absurd (other fits.0)
 free_elsewhere s v (Mapped es) k fits other = refl
 free_elsewhere s v (Taken bs) k fits other = refl
 
+-- a packet on its way to a mapping of its source is a flow, and from inside
+pub outward_flow : (s : Settings) (p : Packet) (n : Noted) (base : IsBase s p n) → IsOutward n.class
+    → (viewed p.bytes p.original ≡ Ok base.flow)
+    × (class_of_flow s base.flow.source base.flow.dest ≡ Some n.class)
+outward_flow s p n base out =
+    let f = seen_flow s p n.class base.class (λ q. subst IsOutward q out) (λ q. subst IsOutward q out) in
+    let same : f.0 ≡ base.flow = same_flow (flow_seen s p) f.0 base.flow (ap flow_in f.2) base.seen in (
+      f.1 ∙ ap (λ (g : Flow). Ok g) same,
+      ap (λ (g : Flow). class_of_flow s g.source g.dest) (sym same) ∙ sym (ap (class_in s) f.2) ∙ base.class,
+    )
+
 pub from_inside : (s : Settings) (p : Packet) (n : Noted) (base : IsBase s p n) → IsOutward n.class
     → IsFromInside s base.flow
-from_inside s p n base out = by (class_of_flow s base.flow.source base.flow.dest) n.class base.class out
+from_inside s p n base out =
+    by (class_of_flow s base.flow.source base.flow.dest) n.class (outward_flow s p n base out).1 out
   where
     by : (o : Option Class) (c : Class) → o ≡ Some c → IsOutward c → (o ≡ Some Outbound) ⊎ (o ≡ Some Hairpin)
     by o Outbound e out = inl e
     by o Hairpin e out = inr e
     by o Inbound e out = absurd out
+    by o OutboundError e out = absurd out
 
-goes_inside : (s : Settings) (p : Packet) (n : Noted) (base : IsBase s p n) → IsInward n.class → GoesInside s base.flow
-goes_inside s p n base inward = by (class_of_flow s base.flow.source base.flow.dest) n.class base.class inward
+goes_inside : (s : Settings) (p : Packet) (n : Noted) (base : IsBase s p n) → IsInward n.class → GoesInside s p
+goes_inside s p n base inward = by (class_seen s p) n.class base.class inward
   where
     by : (o : Option Class) (c : Class) → o ≡ Some c → IsInward c → (o ≡ Some Inbound) ⊎ (o ≡ Some Hairpin)
     by o Outbound e inward = absurd inward
     by o Hairpin e inward = inr e
     by o Inbound e inward = inl e
+    by o OutboundError e inward = absurd inward
 
 -- where a packet may go from a forward table
 abbrev IsMappingPlace : Place → Type 0
@@ -216,11 +237,13 @@ IsMappingPlace AsksIfLives = ⊥
 IsMappingPlace CountsDrop = ⊥
 IsMappingPlace SendsOut = Unit {0}
 IsMappingPlace Ends = Unit {0}
+IsMappingPlace FindsPort = ⊥
 
 mapped_place : (n : Noted) (c : Class) → IsMappingPlace (mapped n c).place
 mapped_place n Outbound = tt
 mapped_place n Hairpin = tt
 mapped_place n Inbound = tt
+mapped_place n OutboundError = tt
 
 find_place : (n : Noted) (f : Find) → IsMappingPlace (after_find n f).place
 find_place n (Live port) = mapped_place (record n { port = port }) n.class
@@ -235,6 +258,7 @@ given_outward : (c : Class) (X : Type 0) → X → IfOutward c X
 given_outward Outbound X x = x
 given_outward Hairpin X x = x
 given_outward Inbound X x = tt
+given_outward OutboundError X x = tt
 
 module _ (s : Settings) (p : Packet) where
   base_on : (n o : Noted) → o.class ≡ n.class → o.source ≡ n.source → o.dest_port ≡ n.dest_port
@@ -254,6 +278,7 @@ module _ (s : Settings) (p : Packet) where
   mapped_known m n Hairpin is k r =
       ((k.0, k.1), subst IsInward (sym is) tt, given_outward n.class (Refreshed m n) r)
   mapped_known m n Inbound is k r = ((k.0, k.1), given_outward n.class (Refreshed m n) r)
+  mapped_known m n OutboundError is k r = ((k.0, k.1), given_outward n.class (Refreshed m n) r)
 
   module _ (m : Met) (n : Noted) (es : Forwards) (k : IsOnWay s m p n) where
     abbrev leaving : Forwards → Met
@@ -314,6 +339,7 @@ module _ (s : Settings) (p : Packet) where
   outward_by Outbound X Y f k = f k
   outward_by Hairpin X Y f k = f k
   outward_by Inbound X Y f k = tt
+  outward_by OutboundError X Y f k = tt
 
   left_by_followed : (m : Met) (c : Option ℕ) (u : Noted) (es : Forwards) (place : Place) (n : Noted)
       → IsMappingPlace place → KnownAt s (record m { left = Some es }) p place n
@@ -350,6 +376,7 @@ module _ (s : Settings) (p : Packet) where
   left_by_followed m c u es AsksIfLives n is k = absurd is
   left_by_followed m c u es CountsDrop n is k = absurd is
   left_by_followed m c u es Ends n is k = tt
+  left_by_followed m c u es FindsPort n is k = absurd is
 
   -- a touch, and a read, of variables with these values
   module _ (value : ℕ → NatValue) (fits : (v : ℕ) → v < 2 + 2 * s.shards → Fits s v (value v)) where
@@ -375,7 +402,7 @@ module _ (s : Settings) (p : Packet) where
         cause : AreBytes p.bytes → Cause s p (record m { at_pool = Some value }) 8
         cause bytes = inr (inr (inl (
           k.0.flow,
-          k.0.seen,
+          (outward_flow s p n k.0 k.2).0,
           from_inside s p n k.0 k.2,
           value,
           refl,
@@ -436,7 +463,7 @@ module _ (s : Settings) (p : Packet) where
             (subst (λ (x : NatValue). Has (bound_in x) (dest_key n, key)) (ap value there ∙ is) h)
 
         cause : AreBytes p.bytes → Cause s p (record m { at_reverse = Some value }) 7
-        cause bytes = inr (inr (inr (
+        cause bytes = inr (inr (inr (inl (
           k.0.0.flow,
           k.0.0.seen,
           goes_inside s p n k.0.0 k.1,
@@ -444,7 +471,7 @@ module _ (s : Settings) (p : Packet) where
           refl,
           inl (subst (IsUnbound s value) (same_port_key n k.0.0 bytes) unbound),
           refl,
-        )))
+        ))))
 
     lives_known : (m : Met) (n : Noted) (w : ℕ) (es : Forwards) (b : Bool) → value w ≡ Mapped es
         → w < 2 + 2 * s.shards → forward_table s n.target ≡ w → lives n.target n.dest_port n.time es ≡ b
@@ -484,7 +511,41 @@ module _ (s : Settings) (p : Packet) where
               k.0.1,
               there,
             ) in
-            inr (inr (inr (base.flow, base.seen, goes_inside s p n base k.1, to.0, to.3, inr found, refl)))
+            inr (inr (inr (inl (base.flow, base.seen, goes_inside s p n base k.1, to.0, to.3, inr found, refl))))
+
+    port_known : (m : Met) (n : Noted) (w : ℕ) (es : Forwards) (o : Option ℕ) → value w ≡ Mapped es
+        → w < 2 + 2 * s.shards → forward_table s n.source ≡ w → used_port n.source n.time es ≡ o
+        → KnownAt s m p FindsPort n
+        → KnownAt s (record m { at_forward = Some value }) p (after_port n o).place (after_port n o).noted
+    port_known m n w es (Some port) is low at e k =
+        let o : Noted = record n { port = port } in (
+          (base_on n o refl refl refl refl k.0.0, k.0.1),
+          subst (λ (c : Class). IfOutward c (Refreshed (record m { at_forward = Some value }) o)) (sym k.1) tt,
+        )
+    port_known m n w es None is low at e k = (omega arith, omega arith, cause)
+      where
+        none : (port : ℕ) → HasNoneUsed s value n.source port n.time
+        none port v slot h to =
+            let there : v ≡ w = mapping_at s v (value v) n.source slot (fits v h.0) h.1 ∙ at in
+            let idle : AreIdle es n.source port n.time =
+            lives_not (MayMap s w) n.source port n.time es (subst (Fits s w) is (fits w low)).2
+            (unused_lives_not n.source n.time es e port) in
+            idle slot (subst (λ (x : NatValue). Has (mappings_in x) (n.source, slot)) (ap value there ∙ is) h.1) to
+
+        cause : AreBytes p.bytes → Cause s p (record m { at_forward = Some value }) 7
+        cause bytes =
+            let base : IsBase s p n = k.0.0 in
+            inr (inr (inr (inr (
+              base.flow,
+              base.seen,
+              base.class ∙ ap (λ (c : Class). Some c) k.1,
+              value,
+              n.time,
+              refl,
+              k.0.1,
+              subst (λ (key : Endpoint). (port : ℕ) → HasNoneUsed s value key port n.time) (base.source bytes) none,
+              refl,
+            ))))
 
     look_known : (m : Met) (w : ℕ) (place : Place) (x : NatValue) (n : Noted) → value w ≡ x → LookKind place x
         → w < 2 + 2 * s.shards → var_of s place n ≡ w → KnownAt s m p place n
@@ -493,6 +554,8 @@ module _ (s : Settings) (p : Packet) where
         endpoint_known m n bs w (endpoint_of (dest_key n) bs) is at refl k
     look_known m w _ _ n is (asks es) low at k =
         lives_known m n w es (lives n.target n.dest_port n.time es) is low at refl k
+    look_known m w _ _ n is (finds_port es) low at k =
+        port_known m n w es (used_port n.source n.time es) is low at refl k
 
   time_known : (m : Met) (n : Noted) (c : Class) → n.class ≡ c → IsBase s p n → m.clock ≡ Some n.time
       → KnownAt s m p (after_time n c).place (after_time n c).noted
@@ -500,6 +563,7 @@ module _ (s : Settings) (p : Packet) where
   time_known m n Hairpin is base clock = (base, clock, subst IsOutward (sym is) tt)
   time_known m n Inbound is base clock =
       ((base, clock), subst IsInward (sym is) tt, subst (λ (c : Class). IfOutward c (Refreshed m n)) (sym is) tt)
+  time_known m n OutboundError is base clock = ((base, clock), is)
 
 -- The beginning
 
@@ -513,8 +577,7 @@ reason_low BadTotalLength = (omega arith, omega arith)
 
 module _ (s : Settings) (p : Packet) where
   -- the fields of a flow of bytes, as they are noted
-  base_begun : (flow : Flow) (class : Class) → viewed p.bytes p.original ≡ Ok flow
-      → class_of_flow s flow.source flow.dest ≡ Some class
+  base_begun : (flow : Flow) (class : Class) → flow_seen s p ≡ Ok flow → class_seen s p ≡ Some class
       → IsBase s p (noted (local_of HearsTime (noted_flow (segment_told s.closing flow.flags) flow class)))
   base_begun flow class seen is = record {
     flow = flow;
@@ -525,17 +588,13 @@ module _ (s : Settings) (p : Packet) where
     segment = segment;
   }
     where
-      same : flow_of p.bytes ≡ flow
-      same = (pass_from_ok (failures p.bytes p.original) (flow_of p.bytes) flow seen).1
-
       source : AreBytes p.bytes
           → endpoint (flow.protocol % 2 ^ 8) (flow.source % 2 ^ 32) (flow.source_port % 2 ^ 16) ≡ source_of flow
       source bytes =
-          let a : flow.protocol < 2 ^ 8 = subst (λ (f : Flow). f.protocol < 2 ^ 8) same (bytes 23) in
-          let b : flow.source < 2 ^ 32 =
-          subst (λ (f : Flow). f.source < 2 ^ 32) same (long_fits p.bytes 26 bytes) in
-          let c : flow.source_port < 2 ^ 16 =
-          subst (λ (f : Flow). f.source_port < 2 ^ 16) same (word_fits p.bytes (header_end p.bytes) bytes) in
+          let w = flow_whole s p flow seen bytes in
+          let a : flow.protocol < 2 ^ 8 = w.protocol in
+          let b : flow.source < 2 ^ 32 = w.source in
+          let c : flow.source_port < 2 ^ 16 = w.source_port in
           let d : flow.protocol % 2 ^ 8 ≡ flow.protocol = omega arith in
           let e : flow.source % 2 ^ 32 ≡ flow.source = omega arith in
           let f : flow.source_port % 2 ^ 16 ≡ flow.source_port = omega arith in
@@ -545,8 +604,7 @@ module _ (s : Settings) (p : Packet) where
       told = segment_told s.closing flow.flags
 
       low : AreBytes p.bytes → flow.dest_port < 2 ^ 16
-      low bytes =
-          subst (λ (f : Flow). f.dest_port < 2 ^ 16) same (word_fits p.bytes (header_end p.bytes + 2) bytes)
+      low bytes = (flow_whole s p flow seen bytes).dest_port
 
       dest_port : AreBytes p.bytes
           → (flow.dest_port + 2 ^ 16 * number_of_segment told) % 2 ^ 16 ≡ flow.dest_port
@@ -560,17 +618,14 @@ module _ (s : Settings) (p : Packet) where
           omega arith in
           ap segment_numbered above ∙ segment_again told
 
-  begun_known : (seen : Result Flow NotFlow) → viewed p.bytes p.original ≡ seen
-      → Known s nothing_met (Some (record { packet = p; place = local_at (begun s seen) }))
-  begun_known (Err answer) is =
-      let low = reason_low answer in (low.0, low.1, λ bytes. inl (answer, is, refl))
-  begun_known (Ok flow) is = by (class_of_flow s flow.source flow.dest) refl
+  begun_known : Known s nothing_met (Some (record { packet = p; place = local_at (begun s (seen_by s p)) }))
+  begun_known = by (flow_seen s p) (class_seen s p) refl refl
     where
-      by : (o : Option Class) → class_of_flow s flow.source flow.dest ≡ o
-          → Known s nothing_met
-          (Some (record { packet = p; place = local_at (begun_as (segment_told s.closing flow.flags) flow o) }))
-      by None q = (omega arith, omega arith, λ bytes. inr (inl (flow, is, q, refl)))
-      by (Some class) q = base_begun flow class is q
+      by : (r : Result Flow NotFlow) (o : Option Class) → flow_seen s p ≡ r → class_seen s p ≡ o
+          → Known s nothing_met (Some (record { packet = p; place = local_at (begun_by s r o) }))
+      by (Err answer) o is q = let low = reason_low answer in (low.0, low.1, λ bytes. inl (answer, is, refl))
+      by (Ok flow) None is q = (omega arith, omega arith, λ bytes. inr (inl (flow, is, q, refl)))
+      by (Ok flow) (Some class) is q = base_begun flow class is q
 
 -- Each move
 
@@ -605,7 +660,7 @@ module _ (s : Settings) (is : AreSettings s) (packets : List Packet) (value : �
   pub move_keeps : (after : Thread) (d : Effect NatValue) (hand : Option Hand) (a : Option ℕ)
       → held_move (nat_meaning s) packets value taken a hand ≡ Moves after d → Keeps hand after.hand d
   move_keeps after d hand a e =
-      by_move s packets value taken Keeps (λ p input k. begun_known s p (viewed p.bytes p.original) refl)
+      by_move s packets value taken Keeps (λ p input k. begun_known s p)
       (λ h v w k.
       let below = touched_below s is h v w in
       let r = touched (at h) (value v) (noted h.place) in

@@ -10,4 +10,6 @@ pub mod DropCounts
 pub mod Causes
 pub mod Passing
 pub mod Refreshing
+pub mod StaticPorts
+pub mod Errors
 pub mod Phasing

@@ -7,7 +7,6 @@ use Rattle.entry_order.specs.Stamps.{sum_below}
 use Rattle.entry_order.proofs.Order.{is_or}
 use Rattle.packet_headers.specs.declared.flow.Flow.{Flow}
 use Rattle.packet_headers.specs.declared.flow.NotFlow.{NotFlow}
-use Rattle.packet_headers.specs.View.{viewed}
 use Rattle.plain_machine.specs.declared.local.Move.TheVariants.{Access}
 use Rattle.plain_machine.specs.Machine.{Hand, Thread, Effect, Takes, Touches, Looks, HearsClock, HearsDraw, Sends}
 use Rattle.plain_machine.specs.Machine.{Ends as EndsIt, Moves, held_move}
@@ -26,16 +25,18 @@ use Rattle.nat_tables.specs.Reverses.{endpoint_of}
 use Rattle.nat_box.specs.declared.place.Place.{Place}
 use Rattle.nat_box.specs.declared.place.Place.TheVariants.{HearsTime, DrawsWord}
 use Rattle.nat_box.specs.declared.place.Class.{Class}
-use Rattle.nat_box.specs.declared.place.Class.TheVariants.{Outbound, Hairpin, Inbound}
+use Rattle.nat_box.specs.declared.place.Class.TheVariants.{Outbound, Hairpin, Inbound, OutboundError}
 use Rattle.nat_box.specs.declared.place.Noted.{Noted}
 use Rattle.flow_boxes.specs.declared.drops.Drops.{Drops}
 use Rattle.nat_box.specs.declared.value.NatValue.{NatValue}
 use Rattle.nat_box.specs.declared.value.NatValue.TheVariants.{Dropped, Free, Mapped, Taken}
 use Rattle.nat_box.specs.Places.{noted, dest_key}
 use Rattle.nat_box.specs.declared.place.Goes.{Goes}
-use Rattle.nat_box.specs.Nat.{Settings, class_of_flow, begun_as, begun, mapped, after_find, after_reserve, after_bind}
+use Rattle.nat_box.specs.declared.seeing.Seen.{Seen}
+use Rattle.nat_box.specs.Nat.{Settings, seen_by, flow_in, class_in, begun_by, begun, mapped, after_find, after_reserve}
+use Rattle.nat_box.specs.Nat.{after_bind, used_port, after_port}
 use Rattle.nat_box.specs.Nat.{touched, followed, after_endpoint, looked_by, looked, after_time, told, nat_meaning}
-use Rattle.nat_box.specs.Nat.{segment_told, Fits}
+use Rattle.nat_box.specs.Nat.{Fits}
 use Rattle.nat_box.specs.Noting.{place_again}
 use Rattle.nat_box.specs.Lawful.{AreSettings, var_of, touches_it, nat_lawful}
 use Rattle.flow_boxes.proofs.Summing.{one_changes, sum_of_none, term_of_sum}
@@ -45,7 +46,8 @@ use Rattle.nat_runs.specs.Passing.{taken_by, taken_in, drops_in, waits_at, waits
 use Rattle.nat_runs.specs.Passing.{HasPassed, EachPasses, NoneVanishes, NoneVanishesAtRest}
 use Rattle.nat_runs.proofs.DropCounts.{drop_is, one_more_long, one_more_sum}
 use Rattle.nat_runs.proofs.ThreadMoves.{TouchKind, finds, unbinds_freed, gives_freed, reserves, binds, finds_or_binds}
-use Rattle.nat_runs.proofs.ThreadMoves.{unbinds_lost, gives_lost, counts, LookKind, finds_endpoint, asks, touch_kind}
+use Rattle.nat_runs.proofs.ThreadMoves.{unbinds_lost, gives_lost, counts, LookKind, finds_endpoint, asks, finds_port}
+use Rattle.nat_runs.proofs.ThreadMoves.{touch_kind}
 use Rattle.nat_runs.proofs.ThreadMoves.{look_kind, at_clock, at_draw, at_emit, at_end, at, touched_below, read_below}
 use Rattle.nat_runs.proofs.ThreadMoves.{begins_with, by_thread_move, by_move}
 use Rattle.nat_runs.proofs.Knowing.{KnownAt, Known, run_known}
@@ -55,18 +57,19 @@ use Rattle.nat_runs.proofs.Knowing.{KnownAt, Known, run_known}
 waits_on : (h : Hand) (g : Goes) → waits (goes_on h g) ≡ waits_at g.place
 waits_on h g = ap waits_at (place_again g.place)
 
-begun_waits : (s : Settings) (seen : Result Flow NotFlow) → waits_at (begun s seen).place ≡ 1
-begun_waits s (Err answer) = refl
-begun_waits s (Ok flow) = by (class_of_flow s flow.source flow.dest)
+begun_waits : (s : Settings) (seen : Seen) → waits_at (begun s seen).place ≡ 1
+begun_waits s seen = by (flow_in seen) (class_in s seen)
   where
-    by : (o : Option Class) → waits_at (begun_as (segment_told s.closing flow.flags) flow o).place ≡ 1
-    by (Some class) = refl
-    by None = refl
+    by : (r : Result Flow NotFlow) (o : Option Class) → waits_at (begun_by s r o).place ≡ 1
+    by (Ok flow) (Some class) = refl
+    by (Ok flow) None = refl
+    by (Err answer) o = refl
 
 mapped_waits : (n : Noted) (c : Class) → waits_at (mapped n c).place ≡ 1
 mapped_waits n Outbound = refl
 mapped_waits n Hairpin = refl
 mapped_waits n Inbound = refl
+mapped_waits n OutboundError = refl
 
 found_waits : (n : Noted) (f : Find) → waits_at (after_find n f).place ≡ 1
 found_waits n (Live port) = mapped_waits (record n { port = port }) n.class
@@ -107,11 +110,17 @@ look_waits _ _ n (asks es) = (refl, by (lives n.target n.dest_port n.time es))
     by : (b : Bool) → waits_at (looked_by n b).place ≡ 1
     by true = refl
     by false = refl
+look_waits _ _ n (finds_port es) = (refl, by (used_port n.source n.time es))
+  where
+    by : (o : Option ℕ) → waits_at (after_port n o).place ≡ 1
+    by (Some port) = refl
+    by None = refl
 
 time_waits : (n : Noted) (c : Class) → waits_at (after_time n c).place ≡ 1
 time_waits n Outbound = refl
 time_waits n Hairpin = refl
 time_waits n Inbound = refl
+time_waits n OutboundError = refl
 
 told_waits : (place : Place) (a : ℕ) (n : Noted) → (place ≡ HearsTime) ⊎ (place ≡ DrawsWord)
     → (waits_at place ≡ 1) × (waits_at (told place a n).place ≡ 1)
@@ -214,8 +223,7 @@ module _ (s : Settings) (is : AreSettings s) (packets : List Packet) (value : �
   move_adds after d hand a move =
       by_move s packets value taken Adds
       (λ p input k.
-      let one = ap waits_at (place_again (begun s (viewed p.bytes p.original)).place)
-      ∙ begun_waits s (viewed p.bytes p.original) in
+      let one = ap waits_at (place_again (begun s (seen_by s p)).place) ∙ begun_waits s (seen_by s p) in
       (nine, omega (arith, one)))
       (λ h w c k. at_touch h w c k)
       (λ h w c k.
@@ -346,8 +354,7 @@ module _ (s : Settings) (is : AreSettings s) (packets : List Packet) (value : �
       by_thread_move s packets value taken Passes
       (λ p input.
       let one : waits (begins_with s p) ≡ 1 =
-      ap waits_at (place_again (begun s (viewed p.bytes p.original)).place)
-      ∙ begun_waits s (viewed p.bytes p.original) in
+      ap waits_at (place_again (begun s (seen_by s p)).place) ∙ begun_waits s (seen_by s p) in
       omega (arith, one))
       (λ h w c. passes_on _ _ _ _ (touch_passes h w c))
       (λ h w c.

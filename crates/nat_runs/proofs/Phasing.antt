@@ -41,7 +41,7 @@ use Rattle.nat_runs.specs.Following.{phase_then, HadPhase, IsFollowedOn, HostsFo
 use Rattle.nat_runs.proofs.TableEntries.{missed, without_was, without_idle_was}
 use Rattle.nat_runs.proofs.ThreadMoves.{TouchKind, finds, unbinds_freed, gives_freed, reserves, binds, finds_or_binds}
 use Rattle.nat_runs.proofs.ThreadMoves.{unbinds_lost, gives_lost, counts, touch_kind, at, touched_below, by_move}
-use Rattle.nat_runs.proofs.Knowing.{IsBase, IsOnWay, KnownAt, Known, run_known}
+use Rattle.nat_runs.proofs.Knowing.{outward_flow, IsBase, IsOnWay, KnownAt, Known, run_known}
 
 -- Before the segment is noted: an entry was there, or it is of the packet's endpoint and has the phase of its mapping.
 
@@ -212,7 +212,7 @@ module _ (s : Settings) (m : Met) (p : Packet) (e : Endpoint × Slot) where
   now_of n es k (inr (q, old, had, phase)) =
       inr (λ bytes. (
         k.0.flow,
-        k.0.seen,
+        (outward_flow s p n k.0 k.2).0,
         sym (k.0.source bytes) ∙ q,
         old,
         had,

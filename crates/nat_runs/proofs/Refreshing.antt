@@ -23,7 +23,7 @@ use Rattle.nat_box.specs.declared.place.Noted.{Noted}
 use Rattle.nat_box.specs.declared.value.NatValue.{NatValue}
 use Rattle.nat_box.specs.declared.value.NatValue.TheVariants.{Mapped}
 use Rattle.nat_box.specs.Places.{noted}
-use Rattle.nat_box.specs.Nat.{Settings, class_of_flow, touched, followed, nat_meaning, Fits}
+use Rattle.nat_box.specs.Nat.{Settings, class_of_flow, flow_seen, touched, followed, nat_meaning, Fits}
 use Rattle.nat_box.specs.Lawful.{AreSettings, nat_lawful}
 use Rattle.nat_box.specs.Sentences.{Has, mappings_in}
 use Rattle.flow_boxes.specs.Flows.{source_of}
@@ -37,7 +37,8 @@ use Rattle.nat_runs.proofs.ThreadMoves.{TouchKind, finds, unbinds_freed, gives_f
 use Rattle.nat_runs.proofs.ThreadMoves.{unbinds_lost, gives_lost, counts, touch_kind, at_emit, at, touched_below}
 use Rattle.nat_runs.proofs.ThreadMoves.{by_move}
 use Rattle.nat_box.proofs.Emissions.{IfOutward}
-use Rattle.nat_runs.proofs.Knowing.{from_inside, IsBase, Refreshed, IsOnWay, KnownAt, Known, run_known}
+use Rattle.nat_box.proofs.SeenAs.{same_flow, flow_is_seen, class_is_seen}
+use Rattle.nat_runs.proofs.Knowing.{outward_flow, from_inside, IsBase, Refreshed, IsOnWay, KnownAt, Known, run_known}
 
 -- What a touch leaves
 
@@ -67,7 +68,7 @@ module _ (s : Settings) (m : Met) (p : Packet) (e : Endpoint × Slot) where
   was_of n es k (inr q) =
       inr (λ bytes. (
         k.0.flow,
-        k.0.seen,
+        (outward_flow s p n k.0 k.2).0,
         sym (k.0.source bytes) ∙ q,
         from_inside s p n k.0 k.2,
       ))
@@ -98,12 +99,12 @@ sent_refreshed s m p n key bytes k from = by (from.3)
     base = k.0.0
 
     flow : base.flow ≡ from.0
-    flow = let seen : Ok base.flow ≡ Ok from.0 = sym base.seen ∙ from.1 in cc
+    flow = same_flow (flow_seen s p) base.flow from.0 base.seen (flow_is_seen s p from.0 from.1)
 
     class : (c : Class) → class_of_flow s from.0.source from.0.dest ≡ Some c → n.class ≡ c
     class c q =
         let same : Some n.class ≡ Some c =
-        sym base.class ∙ ap (λ (f : Flow). class_of_flow s f.source f.dest) flow ∙ q in
+        sym base.class ∙ class_is_seen s p from.0 from.1 ∙ q in
         cc
 
     own : n.source ≡ key

@@ -1,7 +1,7 @@
 -- Single entries of tables, before and after the moves that change them, and as the tests of tables find them.
 use Rattle.std.proofs.Common.{◌≡◌, ℕ, ◌+◌, ◌<◌, ◌≤◌, Bool, true, false, List, [], ◌∷◌, ◌++◌, refl, sym, ap, ◌∙◌, subst}
 use Rattle.std.proofs.Common.{◌⊎◌, inl, inr, arith, Option, Some, None}
-use Rattle.std.specs.Prelude.{◌==◌, ◌&&◌, not, nat_lt, max, if◌then◌else◌}
+use Rattle.std.specs.Prelude.{◌≢◌, ◌==◌, ◌&&◌, not, nat_lt, max, if◌then◌else◌}
 use Rattle.std.proofs.lemmas.Bool.{eqb-true}
 use Rattle.std.proofs.lemmas.Bool.Decides.{nat_tests}
 use Rattle.nat_tables.specs.declared.entries.Endpoint.{Endpoint}
@@ -19,7 +19,8 @@ use Rattle.flow_boxes.proofs.Fitting.{same_self}
 use Rattle.nat_box.specs.Sentences.{Has}
 use Rattle.nat_tables.specs.declared.phase.Phase.{Phase}
 use Rattle.nat_tables.specs.declared.phase.Phase.TheVariants.{Plain, Opening, Established, Closing}
-use Rattle.nat_tables.specs.Phases.{timer}
+use Rattle.nat_tables.specs.declared.phase.Phase.TheVariants.{EndedByClient, EndedByServer, Kept}
+use Rattle.nat_tables.specs.Phases.{timer, is_kept}
 use Rattle.nat_runs.specs.Idle.{idle_after, IsIdle, IsUsed}
 
 same_port_self : (k : PortKey) → same_port k k ≡ true
@@ -29,19 +30,27 @@ same_port_self k =
 
 -- Idle mappings
 
-idle_in : (now last protocol : ℕ) (phase : Phase) → not (nat_lt now (last + timer protocol phase)) ≡ true
-    → last + idle_after protocol phase ≤ now
-idle_in now last protocol Plain q = grind (arith, nat_tests)
-idle_in now last protocol (Opening seconds) q = grind (arith, nat_tests)
-idle_in now last protocol Established q = grind (arith, nat_tests)
-idle_in now last protocol (Closing seconds) q = grind (arith, nat_tests)
+idle_in : (now last protocol : ℕ) (phase : Phase)
+    → (not (is_kept phase) && not (nat_lt now (last + timer protocol phase))) ≡ true
+    → (phase ≢ Kept) × (last + idle_after protocol phase ≤ now)
+idle_in now last protocol Plain q = (λ k. absurd (cc), grind (arith, nat_tests))
+idle_in now last protocol (Opening seconds) q = (λ k. absurd (cc), grind (arith, nat_tests))
+idle_in now last protocol Established q = (λ k. absurd (cc), grind (arith, nat_tests))
+idle_in now last protocol (Closing seconds) q = (λ k. absurd (cc), grind (arith, nat_tests))
+idle_in now last protocol EndedByClient q = (λ k. absurd (cc), grind (arith, nat_tests))
+idle_in now last protocol EndedByServer q = (λ k. absurd (cc), grind (arith, nat_tests))
+idle_in now last protocol Kept q = absurd (cc)
 
-used_in : (now last protocol : ℕ) (phase : Phase) → not (nat_lt now (last + timer protocol phase)) ≡ false
-    → now < last + idle_after protocol phase
-used_in now last protocol Plain q = grind (arith, nat_tests)
-used_in now last protocol (Opening seconds) q = grind (arith, nat_tests)
-used_in now last protocol Established q = grind (arith, nat_tests)
-used_in now last protocol (Closing seconds) q = grind (arith, nat_tests)
+used_in : (now last protocol : ℕ) (phase : Phase)
+    → (not (is_kept phase) && not (nat_lt now (last + timer protocol phase))) ≡ false
+    → (phase ≡ Kept) ⊎ (now < last + idle_after protocol phase)
+used_in now last protocol Plain q = inr (grind (arith, nat_tests))
+used_in now last protocol (Opening seconds) q = inr (grind (arith, nat_tests))
+used_in now last protocol Established q = inr (grind (arith, nat_tests))
+used_in now last protocol (Closing seconds) q = inr (grind (arith, nat_tests))
+used_in now last protocol EndedByClient q = inr (grind (arith, nat_tests))
+used_in now last protocol EndedByServer q = inr (grind (arith, nat_tests))
+used_in now last protocol Kept q = inl refl
 
 pub idle_is : (now : ℕ) (e : Endpoint × Slot) → is_idle now e ≡ true → IsIdle now e.0 e.1
 idle_is now e q = idle_in now e.1.last e.0.protocol e.1.phase q

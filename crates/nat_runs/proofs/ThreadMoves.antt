@@ -2,7 +2,6 @@
 use Rattle.std.proofs.Common.{◌≡◌, ℕ, ◌+◌, ◌*◌, ◌<◌, ◌≤◌, List, refl, subst, arith, Option, Some, None}
 use Rattle.std.specs.Prelude.{slice_get}
 use Rattle.plain_text.specs.declared.packet.Packet.{Packet}
-use Rattle.packet_headers.specs.View.{viewed}
 use Rattle.plain_machine.specs.declared.local.Move.{Move}
 use Rattle.plain_machine.specs.declared.local.Move.TheVariants.{Access, Read, Clock, Draw, Emit, End}
 use Rattle.plain_machine.specs.Machine.{Hand, Thread, Effect, Takes, Touches, Looks, HearsClock, HearsDraw, Sends}
@@ -14,14 +13,14 @@ use Rattle.nat_box.specs.declared.place.Place.{Place}
 use Rattle.nat_box.specs.declared.place.Place.TheVariants.{HearsTime, FindsMapping, UnbindsFreed, GivesBackFreed}
 use Rattle.nat_box.specs.declared.place.Place.TheVariants.{DrawsWord, ReservesPort, BindsPort, FindsOrBinds}
 use Rattle.nat_box.specs.declared.place.Place.TheVariants.{UnbindsLost, GivesBackLost, FindsEndpoint, AsksIfLives}
-use Rattle.nat_box.specs.declared.place.Place.TheVariants.{CountsDrop, SendsOut, Ends}
+use Rattle.nat_box.specs.declared.place.Place.TheVariants.{CountsDrop, SendsOut, Ends, FindsPort}
 use Rattle.nat_box.specs.declared.place.Noted.{Noted}
 use Rattle.flow_boxes.specs.declared.drops.Drops.{Drops}
 use Rattle.nat_box.specs.declared.value.NatValue.{NatValue}
 use Rattle.nat_box.specs.declared.value.NatValue.TheVariants.{Dropped, Free, Mapped, Taken}
 use Rattle.nat_box.specs.Places.{place_numbered, noted}
-use Rattle.nat_box.specs.Nat.{Settings, goes, next_move, begun, touched, followed, looked, told, local_at, nat_meaning}
-use Rattle.nat_box.specs.Nat.{Fits}
+use Rattle.nat_box.specs.Nat.{Settings, goes, next_move, seen_by, begun, touched, followed, looked, told, local_at}
+use Rattle.nat_box.specs.Nat.{nat_meaning, Fits}
 use Rattle.nat_box.specs.Lawful.{AreSettings, var_of, touches_it, reads_it, below_all}
 use Rattle.nat_box.proofs.Making.{goes_on, comes_to}
 
@@ -41,6 +40,7 @@ pub data TouchKind : Place → NatValue → Type 0 where
 pub data LookKind : Place → NatValue → Type 0 where
   finds_endpoint : (bs : Reverses) → LookKind FindsEndpoint (Taken bs)
   asks : (es : Forwards) → LookKind AsksIfLives (Mapped es)
+  finds_port : (es : Forwards) → LookKind FindsPort (Mapped es)
 
 is_dropped : (s : Settings) (v : ℕ) (x : NatValue) → v ≡ 0 → Fits s v x → (d : Drops) × (Dropped d ≡ x)
 is_dropped s v (Dropped d) e fits = (d, refl)
@@ -96,6 +96,7 @@ module _ (s : Settings) (some : 1 ≤ s.shards) (n : Noted) (v : ℕ) (x : NatVa
   kind_at CountsDrop e at = dropped_kind CountsDrop (omega arith) (λ d. counts d)
   kind_at SendsOut e at = absurd (cc)
   kind_at Ends e at = absurd (cc)
+  kind_at FindsPort e at = absurd (cc)
 
   pub touch_kind : (p : Place) → next_move s p n ≡ Access v → TouchKind p x
   touch_kind p e = kind_at p e (touches_it s p n v e)
@@ -118,6 +119,8 @@ module _ (s : Settings) (some : 1 ≤ s.shards) (n : Noted) (v : ℕ) (x : NatVa
   read_at CountsDrop e at = absurd (cc)
   read_at SendsOut e at = absurd (cc)
   read_at Ends e at = absurd (cc)
+  read_at FindsPort e at =
+      let a = is_mapped s v x (omega arith) (omega arith) fits in subst (LookKind FindsPort) a.1 (finds_port a.0)
 
   pub look_kind : (p : Place) → next_move s p n ≡ Read v → LookKind p x
   look_kind p e = read_at p e (reads_it s p n v e)
@@ -140,6 +143,7 @@ at_clock s AsksIfLives n e = absurd (cc)
 at_clock s CountsDrop n e = absurd (cc)
 at_clock s SendsOut n e = absurd (cc)
 at_clock s Ends n e = absurd (cc)
+at_clock s FindsPort n e = absurd (cc)
 
 pub at_draw : (s : Settings) (p : Place) (n : Noted) → next_move s p n ≡ Draw → p ≡ DrawsWord
 at_draw s HearsTime n e = absurd (cc)
@@ -157,6 +161,7 @@ at_draw s AsksIfLives n e = absurd (cc)
 at_draw s CountsDrop n e = absurd (cc)
 at_draw s SendsOut n e = absurd (cc)
 at_draw s Ends n e = absurd (cc)
+at_draw s FindsPort n e = absurd (cc)
 
 pub at_emit : (s : Settings) (p : Place) (n : Noted) → next_move s p n ≡ Emit → p ≡ SendsOut
 at_emit s HearsTime n e = absurd (cc)
@@ -174,6 +179,7 @@ at_emit s AsksIfLives n e = absurd (cc)
 at_emit s CountsDrop n e = absurd (cc)
 at_emit s SendsOut n e = refl
 at_emit s Ends n e = absurd (cc)
+at_emit s FindsPort n e = absurd (cc)
 
 pub at_end : (s : Settings) (p : Place) (n : Noted) → next_move s p n ≡ End → p ≡ Ends
 at_end s HearsTime n e = absurd (cc)
@@ -191,6 +197,7 @@ at_end s AsksIfLives n e = absurd (cc)
 at_end s CountsDrop n e = absurd (cc)
 at_end s SendsOut n e = absurd (cc)
 at_end s Ends n e = refl
+at_end s FindsPort n e = absurd (cc)
 
 -- What is so of each move of a thread is so of the one that was made.
 
@@ -206,13 +213,13 @@ read_below s is h v e = subst (λ (u : ℕ). u < 2 + 2 * s.shards) (reads_it s (
     (below_all s (at h) (noted h.place) is.some)
 
 abbrev pub begins_with : Settings → Packet → Option Hand
-begins_with s p = Some (record { packet = p; place = local_at (begun s (viewed p.bytes p.original)) })
+begins_with s p = Some (record { packet = p; place = local_at (begun s (seen_by s p)) })
 
 -- Of the thread after it
 module _ (s : Settings) (packets : List Packet) (value : ℕ → NatValue) (taken : ℕ)
     (P : Option Hand → Thread → Effect NatValue → Type 0)
     (take : (p : Packet) → slice_get packets taken ≡ Some p
-    → P None (holding (taken + 1) p (local_at (begun s (viewed p.bytes p.original)))) Takes)
+    → P None (holding (taken + 1) p (local_at (begun s (seen_by s p)))) Takes)
     (touch : (h : Hand) (v : ℕ) → comes_to s h (Access v)
     → P (Some h) (holding taken h.packet (local_at (touched (at h) (value v) (noted h.place)).1))
     (Touches v (followed s (noted h.place) (touched (at h) (value v) (noted h.place)).0)))

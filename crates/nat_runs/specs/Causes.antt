@@ -17,9 +17,10 @@ use Rattle.nat_tables.specs.Keys.{port_key}
 use Rattle.flow_boxes.specs.declared.drops.Drops.{Drops}
 use Rattle.nat_box.specs.declared.value.NatValue.{NatValue}
 use Rattle.nat_box.specs.declared.value.NatValue.TheVariants.{Dropped}
-use Rattle.flow_boxes.specs.Flows.{endpoint, HaveBytes}
+use Rattle.flow_boxes.specs.Flows.{endpoint, source_of, HaveBytes}
 use Rattle.flow_boxes.specs.Drops.{reason_of}
-use Rattle.nat_box.specs.Nat.{Settings, class_of_flow, nat_meaning}
+use Rattle.nat_box.specs.declared.place.Class.TheVariants.{OutboundError}
+use Rattle.nat_box.specs.Nat.{Settings, flow_seen, class_seen, nat_meaning}
 use Rattle.nat_box.specs.Lawful.{AreSettings}
 use Rattle.nat_box.specs.PortStanding.{free_at}
 use Rattle.nat_box.specs.Sentences.{Has, bound_in, IsMapping}
@@ -27,17 +28,21 @@ use Rattle.nat_runs.specs.Classes.{IsFromInside, GoesInside}
 use Rattle.nat_runs.specs.Met.{Met, met_of}
 use Rattle.nat_runs.specs.Idle.{IsIdle}
 
--- 1 to 6: the frame is no flow
-abbrev pub IsNoFlow : Packet → ℕ → Type 0
-IsNoFlow p reason = (answer : NotFlow) × (viewed p.bytes p.original ≡ Err answer) × (reason ≡ reason_of answer)
+-- 1 to 6: the frame is no flow, and no error of ICMP that is seen as one
+abbrev pub IsNoFlow : Settings → Packet → ℕ → Type 0
+IsNoFlow s p reason = (answer : NotFlow) × (flow_seen s p ≡ Err answer) × (reason ≡ reason_of answer)
 
 abbrev pub IsFlow : Packet → Flow → Type 0
 IsFlow p flow = viewed p.bytes p.original ≡ Ok flow
 
--- 9: the flow neither comes from inside nor goes to the outside address, or goes from inside to inside
+-- the packet is the flow, or an error that is seen as it
+abbrev pub IsSeenAs : Settings → Packet → Flow → Type 0
+IsSeenAs s p flow = flow_seen s p ≡ Ok flow
+
+-- 9: the flow neither comes from inside nor goes to the outside address, or goes from inside to inside; or the error is
+-- about no packet that the box may have translated
 abbrev pub IsStray : Settings → Packet → ℕ → Type 0
-IsStray s p reason =
-    (flow : Flow) × IsFlow p flow × (class_of_flow s flow.source flow.dest ≡ None) × (reason ≡ 9)
+IsStray s p reason = (flow : Flow) × IsSeenAs s p flow × (class_seen s p ≡ None) × (reason ≡ 9)
 
 -- 8: it comes from inside, and when it touched the pool, no port of its protocol was free
 abbrev pub FoundNoPort : Settings → Packet → Met → ℕ → Type 0
@@ -66,12 +71,22 @@ FoundNoneUsed s flow met bound =
 -- that is not idle
 abbrev pub FoundNoMapping : Settings → Packet → Met → ℕ → Type 0
 FoundNoMapping s p met reason =
-    (flow : Flow) × IsFlow p flow × GoesInside s flow × (bound : ℕ → NatValue) × (met.at_reverse ≡ Some bound)
+    (flow : Flow) × IsSeenAs s p flow × GoesInside s p × (bound : ℕ → NatValue) × (met.at_reverse ≡ Some bound)
     × (IsUnbound s bound (port_key flow.protocol flow.dest_port) ⊎ FoundNoneUsed s flow met bound) × (reason ≡ 7)
+
+-- or it is an outbound error, and when it read a forward table, the endpoint that it is about had no mapping that is
+-- not idle
+abbrev pub FoundNoneOut : Settings → Packet → Met → ℕ → Type 0
+FoundNoneOut s p met reason =
+    (flow : Flow) × IsSeenAs s p flow × (class_seen s p ≡ Some OutboundError) × (value : ℕ → NatValue) × (now : ℕ)
+    × (met.at_forward ≡ Some value) × (met.clock ≡ Some now)
+    × ((port : ℕ) → HasNoneUsed s value (source_of flow) port now) × (reason ≡ 7)
 
 abbrev pub Cause : Settings → Packet → Met → ℕ → Type 0
 Cause s p met reason =
-    IsNoFlow p reason ⊎ (IsStray s p reason ⊎ (FoundNoPort s p met reason ⊎ FoundNoMapping s p met reason))
+    IsNoFlow s p reason
+    ⊎ (IsStray s p reason
+    ⊎ (FoundNoPort s p met reason ⊎ (FoundNoMapping s p met reason ⊎ FoundNoneOut s p met reason)))
 
 -- one drop more for the reason
 abbrev pub one_more : ℕ → Drops → Drops

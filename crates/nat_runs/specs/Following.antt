@@ -12,9 +12,11 @@ use Rattle.nat_tables.specs.declared.entries.Endpoint.{Endpoint}
 use Rattle.nat_tables.specs.declared.slot.Slot.{Slot}
 use Rattle.nat_tables.specs.declared.phase.Phase.{Phase}
 use Rattle.nat_tables.specs.declared.phase.Phase.TheVariants.{Plain, Opening, Established, Closing}
+use Rattle.nat_tables.specs.declared.phase.Phase.TheVariants.{EndedByClient, EndedByServer, Kept}
 use Rattle.nat_tables.specs.declared.phase.Segment.TheVariants.{Silent}
 use Rattle.nat_tables.specs.Phases.{phase_after}
 use Rattle.flow_boxes.specs.Flows.{source_of, HaveBytes}
+use Rattle.nat_box.specs.declared.seeing.Seen.{Seen}
 use Rattle.nat_box.specs.declared.value.NatValue.{NatValue}
 use Rattle.nat_box.specs.Places.{place_numbered, noted}
 use Rattle.nat_box.specs.Nat.{Settings, segment_of, begun, touched, local_at, nat_meaning}
@@ -27,6 +29,9 @@ IsFollowedBy closing protocol Plain = Unit {0}
 IsFollowedBy closing protocol (Opening seconds) = (closing ≡ Some seconds) × (protocol ≡ 6)
 IsFollowedBy closing protocol Established = (seconds : ℕ) × (closing ≡ Some seconds) × (protocol ≡ 6)
 IsFollowedBy closing protocol (Closing seconds) = (closing ≡ Some seconds) × (protocol ≡ 6)
+IsFollowedBy closing protocol EndedByClient = ⊥
+IsFollowedBy closing protocol EndedByServer = ⊥
+IsFollowedBy closing protocol Kept = Unit {0}
 
 -- each mapping after each move of each run
 abbrev pub FollowedByTheLine : Type 0
@@ -35,11 +40,12 @@ FollowedByTheLine =
     (slot : Slot) → AreSettings s → IsHistory (nat_meaning s) inputs threads steps
     → IsMapping s (value_after (nat_meaning s) steps) v (key, slot) → IsFollowedBy s.closing key.protocol slot.phase
 
+-- where there is no number, each is kept as its protocol says, or for good, as that of a static port is
 abbrev pub NoneFollowedWithoutIt : Type 0
 NoneFollowedWithoutIt =
     (s : Settings) (threads : ℕ) (inputs : ℕ → List Packet) (steps : List (Step NatValue)) (v : ℕ) (key : Endpoint)
     (slot : Slot) → AreSettings s → IsHistory (nat_meaning s) inputs threads steps → s.closing ≡ None
-    → IsMapping s (value_after (nat_meaning s) steps) v (key, slot) → slot.phase ≡ Plain
+    → IsMapping s (value_after (nat_meaning s) steps) v (key, slot) → (slot.phase ≡ Plain) ⊎ (slot.phase ≡ Kept)
 
 -- and then each touch is the one of the table of moves alone, and a packet begins with no segment noted
 abbrev pub TouchesAsBefore : Type 0
@@ -49,7 +55,7 @@ TouchesAsBefore =
     ≡ (let r = touched (place_numbered l.at) x (noted l) in (r.0, local_at r.1))
 
 abbrev pub BeginsAsBefore : Type 0
-BeginsAsBefore = (s : Settings) → s.closing ≡ None → (flow : Flow) → (begun s (Ok flow)).noted.segment ≡ Silent
+BeginsAsBefore = (s : Settings) → s.closing ≡ None → (seen : Seen) → (begun s seen).noted.segment ≡ Silent
 
 -- What a packet of an endpoint makes of the phase of its mapping, by its control bits, where its connection is followed
 

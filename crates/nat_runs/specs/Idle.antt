@@ -1,9 +1,10 @@
 -- When a mapping is idle, in numbers, whatever timers the tables have.
-use Rattle.std.specs.Prelude.{ℕ, ◌+◌, ◌*◌, ◌<◌, ◌≤◌, max, ◌==◌, if◌then◌else◌}
+use Rattle.std.specs.Prelude.{◌≡◌, ◌≢◌, ℕ, ◌+◌, ◌*◌, ◌<◌, ◌≤◌, ◌⊎◌, max, ◌==◌, if◌then◌else◌}
 use Rattle.nat_tables.specs.declared.entries.Endpoint.{Endpoint}
 use Rattle.nat_tables.specs.declared.slot.Slot.{Slot}
 use Rattle.nat_tables.specs.declared.phase.Phase.{Phase}
 use Rattle.nat_tables.specs.declared.phase.Phase.TheVariants.{Plain, Opening, Established, Closing}
+use Rattle.nat_tables.specs.declared.phase.Phase.TheVariants.{EndedByClient, EndedByServer, Kept}
 
 abbrev pub microseconds : ℕ → ℕ
 microseconds seconds = seconds * 1000000
@@ -18,10 +19,13 @@ idle_after protocol Plain = idle_by_protocol protocol
 idle_after protocol (Opening seconds) = microseconds (max 1 seconds)
 idle_after protocol Established = idle_by_protocol protocol
 idle_after protocol (Closing seconds) = microseconds (max 1 seconds)
+idle_after protocol EndedByClient = idle_by_protocol protocol
+idle_after protocol EndedByServer = idle_by_protocol protocol
+idle_after protocol Kept = idle_by_protocol protocol
 
--- the endpoint's mapping was not used for that long
+-- the endpoint's mapping was not used for that long, and it is not kept for good, as that of a static port is
 abbrev pub IsIdle : ℕ → Endpoint → Slot → Type 0
-IsIdle now key slot = slot.last + idle_after key.protocol slot.phase ≤ now
+IsIdle now key slot = (slot.phase ≢ Kept) × (slot.last + idle_after key.protocol slot.phase ≤ now)
 
 abbrev pub IsUsed : ℕ → Endpoint → Slot → Type 0
-IsUsed now key slot = now < slot.last + idle_after key.protocol slot.phase
+IsUsed now key slot = (slot.phase ≡ Kept) ⊎ (now < slot.last + idle_after key.protocol slot.phase)

@@ -8,3 +8,5 @@ pub mod Used
 pub mod Causes
 pub mod Inbound
 pub mod Refreshing
+pub mod StaticPorts
+pub mod Errors

@@ -1,22 +1,24 @@
--- What comes in, or goes back inside, found a mapping to its port that is not idle (RFC 4787, REQ-5 and REQ-9).
-use Rattle.std.specs.Prelude.{◌≡◌, ℕ, ◌-◌, List, ◌∷◌, Option, Some, None, Ok, slice_get}
+-- What comes in, or goes back inside, found a mapping to its port that is not idle (RFC 4787, REQ-5 and REQ-9); and so
+-- did each error of ICMP, in both directions (RFC 5508, REQ-4 and REQ-5).
+use Rattle.std.specs.Prelude.{◌≡◌, ℕ, ◌-◌, List, ◌∷◌, Option, Some, None, slice_get}
 use Rattle.plain_text.specs.declared.packet.Packet.{Packet}
-use Rattle.packet_headers.specs.declared.flow.Flow.{Flow}
-use Rattle.packet_headers.specs.View.{viewed}
 use Rattle.packet_headers.specs.Rewriting.{with_source, with_dest}
+use Rattle.icmp_errors.specs.ErrorRewriting.{with_quoted_source, with_quoted_dest}
 use Rattle.plain_machine.specs.declared.emission.Emission.{Emission}
 use Rattle.plain_machine.specs.History.{Emitted, Step, IsHistory}
 use Rattle.nat_tables.specs.declared.entries.Endpoint.{Endpoint}
 use Rattle.nat_tables.specs.declared.slot.Slot.{Slot}
 use Rattle.nat_tables.specs.Forwards.{Forwards}
 use Rattle.nat_box.specs.declared.place.Class.{Class}
-use Rattle.nat_box.specs.declared.place.Class.TheVariants.{Outbound, Hairpin, Inbound}
+use Rattle.nat_box.specs.declared.place.Class.TheVariants.{Outbound, Hairpin, Inbound, OutboundError}
 use Rattle.nat_box.specs.declared.value.NatValue.{NatValue}
 use Rattle.nat_box.specs.declared.value.NatValue.TheVariants.{Mapped}
-use Rattle.nat_box.specs.Nat.{Settings, class_of_flow, nat_meaning}
+use Rattle.nat_box.specs.declared.seeing.Seen.{Seen}
+use Rattle.nat_box.specs.declared.seeing.Seen.TheVariants.{OfFlow, OfError, OfNeither}
+use Rattle.nat_box.specs.Nat.{Settings, flow_of_error, seen_by, class_seen, nat_meaning}
 use Rattle.nat_box.specs.Lawful.{AreSettings}
 use Rattle.nat_box.specs.Sentences.{Has}
-use Rattle.flow_boxes.specs.Flows.{HaveBytes}
+use Rattle.flow_boxes.specs.Flows.{source_of, HaveBytes}
 use Rattle.nat_box.specs.Emissions.{Trail, trail_of}
 use Rattle.nat_runs.specs.Idle.{IsUsed}
 
@@ -28,20 +30,29 @@ FoundUsed r key port =
     × Has es (key, slot) × (slot.port ≡ port) × IsUsed now key slot
 
 -- the frame goes to the endpoint of such a mapping
-abbrev pub GoesToUsed : Settings → List ℕ → Flow → Trail → List ℕ → Class → Type 0
-GoesToUsed s bytes flow r sent Outbound = Unit {0}
-GoesToUsed s bytes flow r sent Inbound =
+abbrev pub GoesToUsed : Settings → List ℕ → Seen → Trail → List ℕ → Class → Type 0
+GoesToUsed s bytes (OfFlow flow) r sent Outbound = Unit {0}
+GoesToUsed s bytes (OfFlow flow) r sent Inbound =
     (key : Endpoint) × (key.protocol ≡ flow.protocol) × FoundUsed r key flow.dest_port
     × (sent ≡ with_dest bytes flow key.address key.port)
-GoesToUsed s bytes flow r sent Hairpin =
+GoesToUsed s bytes (OfFlow flow) r sent Hairpin =
     (port : ℕ) × (key : Endpoint) × (key.protocol ≡ flow.protocol) × FoundUsed r key flow.dest_port
     × (sent ≡ with_dest (with_source bytes flow s.outside port) flow key.address key.port)
+GoesToUsed s bytes (OfFlow flow) r sent OutboundError = ⊥
+GoesToUsed s bytes (OfError error) r sent Inbound =
+    (key : Endpoint) × (key.protocol ≡ error.protocol) × FoundUsed r key error.quoted_source_port
+    × (sent ≡ with_quoted_source bytes error key.address key.port)
+GoesToUsed s bytes (OfError error) r sent OutboundError =
+    (port : ℕ) × FoundUsed r (source_of (flow_of_error error)) port
+    × (sent ≡ with_quoted_dest bytes error s.outside port)
+GoesToUsed s bytes (OfError error) r sent Outbound = ⊥
+GoesToUsed s bytes (OfError error) r sent Hairpin = ⊥
+GoesToUsed s bytes (OfNeither answer) r sent class = ⊥
 
 abbrev pub WentToUsed : Settings → Trail → List ℕ → Option Packet → Type 0
 WentToUsed s r sent None = ⊥
 WentToUsed s r sent (Some p) =
-    (flow : Flow) × (class : Class) × (viewed p.bytes p.original ≡ Ok flow)
-    × (class_of_flow s flow.source flow.dest ≡ Some class) × GoesToUsed s p.bytes flow r sent class
+    (class : Class) × (class_seen s p ≡ Some class) × GoesToUsed s p.bytes (seen_by s p) r sent class
 
 -- of each emission, and the thread's input of its number
 abbrev pub ComesInByUsed : Type 0

@@ -7,6 +7,9 @@ ghost use Rattle.nat_runs.specs.Used.{ComesInByUsed};
 ghost use Rattle.nat_runs.specs.Causes.{DropsHaveCauses};
 ghost use Rattle.nat_runs.specs.Inbound.{InboundChangesNoTable};
 ghost use Rattle.nat_runs.specs.Refreshing.{HostsRefresh, SentRefresh};
+ghost use Rattle.nat_runs.specs.StaticPorts.{StaticPortsStay, NoneIsDropped, OnlyTheyAreKept};
+ghost use Rattle.nat_runs.specs.StaticPorts.{MovesAreTheSame, NoneStartsWithoutThem};
+ghost use Rattle.nat_runs.specs.Errors.{BeginsByFlow, SendsByFlow, NoneFindsPort};
 
 /// After each move of each run, whatever its threads, its inputs and the order of its moves: each packet that a thread
 /// took was sent out once, or counted once as dropped, or is the one in hand and neither yet (`each`). So over all
@@ -20,14 +23,16 @@ pub fn no_packet_vanishes()
 
 /// At each step each mapping stays, with its port, or it was idle at the time that the packet was told: not used for
 /// 300 s of UDP (RFC 4787, REQ-5), for 7,440 s of TCP, or for the box's own number of seconds, of a TCP connection that
-/// is followed and not established, or was ended (RFC 5382, REQ-5). So an inside endpoint that goes on has the
+/// is followed and not established, or was ended (RFC 5382, REQ-5). One of a static port is never idle. So an inside
+/// endpoint that goes on has the
 /// same port toward every remote endpoint (RFC 4787, REQ-1).
 pub fn mappings_stay_until_idle()
     ensures { MappingsStay }
 {}
 
 /// Each mapping whose connection is followed is of TCP, and has the box's number of seconds (`by_the_line`). Where the
-/// box has none, no connection is followed, so each mapping is kept as its protocol says (`none_without_it`); each
+/// box has none, no connection is followed, so each mapping is kept as its protocol says, or for good
+/// (`none_without_it`); each
 /// touch is that of the table of moves alone (`touches`), and no segment is noted (`begins`). The phase of a mapping
 /// changes by a packet from its own inside endpoint alone, and as the control bits of this packet say (`hosts`).
 pub fn connections_are_followed_by_the_line()
@@ -40,19 +45,22 @@ pub fn connections_are_followed_by_the_line()
 
 /// What goes back inside, of an inbound or a hairpin packet (RFC 4787, REQ-9), goes to an endpoint that has a mapping
 /// to the packet's port, and this mapping is not idle: it was used less than 300 s of UDP, 7,440 s of TCP before the
-/// time that the packet was told.
+/// time that the packet was told. So does each error of ICMP that is sent out: of an inbound one the mapping is of the
+/// endpoint from which the quoted packet came (RFC 5508, REQ-4), of an outbound one that to which it went (REQ-5).
 pub fn what_comes_in_found_a_used_mapping()
     ensures { ComesInByUsed }
 {}
 
 /// Each drop that is counted has the cause of its reason: the frame is no flow (1 to 6), or a stray (9); no port of its
 /// protocol was free (8); nothing was bound to the port that it goes to, or only an idle mapping (7). So what comes to
-/// a port with a used mapping is let in, whatever its source (RFC 4787, REQ-8, endpoint-independent filtering).
+/// a port with a used mapping is let in, whatever its source (RFC 4787, REQ-8, endpoint-independent filtering). An error
+/// of ICMP is a stray where it is about no packet that the box may have translated, and else found no used mapping.
 pub fn drops_have_their_causes()
     ensures { DropsHaveCauses }
 {}
 
 /// A step of an inbound packet leaves each table and the pool as they were: it refreshes no mapping (RFC 4787, REQ-6).
+/// So does a step of an error of ICMP, whatever its direction (RFC 5508, REQ-6).
 pub fn inbound_packets_change_no_table()
     ensures { InboundChangesNoTable }
 {}
@@ -63,4 +71,25 @@ pub fn inbound_packets_change_no_table()
 pub fn hosts_refresh_their_own_mappings()
     ensures hosts { HostsRefresh }
     ensures sent { SentRefresh }
+{}
+
+/// After each move of each run, whatever its threads, its inputs and the order of its moves, each static port that
+/// counts stands: its inside endpoint is mapped to its outside port, the port's reverse entry names this endpoint, and
+/// no other endpoint is mapped to the port (`stay`). An inbound packet to it is never counted as dropped, at any time
+/// (`let_in`). No other mapping is kept for good (`kept`). The moves are the same whatever static ports there are
+/// (`moves`), and with none the variables start with all ports free and with empty tables (`none`).
+pub fn static_ports_stay()
+    ensures stay { StaticPortsStay }
+    ensures let_in { NoneIsDropped }
+    ensures kept { OnlyTheyAreKept }
+    ensures moves { MovesAreTheSame }
+    ensures none { NoneStartsWithoutThem }
+{}
+
+/// Where the box has no line for errors of ICMP, each packet begins, and is sent out, as its frame is a flow or none
+/// (`begins`, `sends`), and no packet comes to the place of errors that go out (`none`).
+pub fn errors_go_through_by_the_line()
+    ensures begins { BeginsByFlow }
+    ensures sends { SendsByFlow }
+    ensures none { NoneFindsPort }
 {}

@@ -2,7 +2,7 @@
 use Rattle.std.proofs.Common.{◌≡◌, ◌==◌, ℕ, zero, suc, ◌+◌, ◌<◌, ◌≤◌, Bool, true, false, List, [], ◌∷◌, ◌++◌, length}
 use Rattle.std.proofs.Common.{set}
 use Rattle.std.proofs.Common.{refl, sym, ap, subst, ◌∙◌, arith, ⊎_elim, Option, Some, None, length-append}
-use Rattle.std.specs.Prelude.{◌≢◌, nat_lt, if◌then◌else◌}
+use Rattle.std.specs.Prelude.{◌≢◌, nat_lt, not, if◌then◌else◌}
 use Rattle.std.specs.List.{sum_by}
 use Rattle.std.proofs.lemmas.Bool.{eqb-true, cases_lt}
 use Rattle.std.proofs.lemmas.Bool.Decides.{nat_tests}
@@ -11,8 +11,9 @@ use Rattle.std.proofs.lemmas.List.Sums.{sum_by-set}
 use Rattle.nat_tables.specs.declared.entries.Endpoint.{Endpoint}
 use Rattle.nat_tables.specs.declared.slot.Slot.{Slot}
 use Rattle.nat_tables.specs.declared.phase.Segment.{Segment}
-use Rattle.nat_tables.specs.Phases.{timer}
-use Rattle.nat_tables.specs.Forwards.{refreshed, first_idle, without_idle, slot_of, refresh, mark}
+use Rattle.nat_tables.specs.Phases.{timer, is_kept}
+use Rattle.nat_tables.specs.declared.phase.Phase.{Phase}
+use Rattle.nat_tables.specs.Forwards.{is_idle, refreshed, first_idle, without_idle, slot_of, refresh, mark, with_phase}
 use Rattle.nat_tables.specs.Keys.{same_endpoint}
 use Rattle.nat_tables.specs.Ports.{one_if}
 use Rattle.nat_tables.specs.Rows.{present, row_at}
@@ -71,7 +72,8 @@ pub busy_used : (times : List ℕ) (rows : List Row) (at now : ℕ) (own : Endpo
 busy_used times rows at now own slot busy is =
     row_changed times rows at (Some (own, refreshed now slot)) busy
     (λ inside.
-    let old : IsBusyUntil (time_at times at) (Some (own, slot)) = rw is at (busy.each at inside) in omega arith)
+    let old : IsBusyUntil (time_at times at) (Some (own, slot)) = rw is at (busy.each at inside) in
+    λ k. let o = old k in omega arith)
 
 -- another mapping and its time in a row
 pub busy_marked : (times : List ℕ) (rows : List Row) (at time : ℕ) (row : Row) → AreBusyUntil times rows
@@ -99,7 +101,7 @@ busy_marked times rows at time row busy new = record {
 
 pub busy_pushed : (times : List ℕ) (rows : List Row) (at time : ℕ) (key : Endpoint) (slot : Slot)
     → AreBusyUntil times rows → length rows < length times → at ≡ length rows
-    → time < slot.last + timer key.protocol slot.phase
+    → IsBusyUntil time (Some (key, slot))
     → AreBusyUntil (set times at time) (rows ++ Some (key, slot) ∷ [])
 busy_pushed times rows at time key slot busy room last later = record {
   long = let s = length-set times at time in let l = length-append rows (Some (key, slot) ∷ []) in omega arith;
@@ -124,12 +126,32 @@ busy_pushed times rows at time key slot busy room last later = record {
 pub busy_none : AreBusyUntil [] []
 busy_none = record { long = omega arith; each = λ at less. absurd (omega arith) }
 
+-- A mapping that is kept is never idle, and another one is not before its time
+
+pub kept_until : (time : ℕ) (e : Endpoint × Slot) → is_kept e.1.phase ≡ true → IsBusyUntil time (Some e)
+kept_until time e kept = λ other. absurd (cc)
+
+pub idle_by : (now : ℕ) (e : Endpoint × Slot) → is_kept e.1.phase ≡ false → is_idle now e ≡ false
+    → now < e.1.last + timer e.0.protocol e.1.phase
+idle_by now e other busy = by (nat_lt now (e.1.last + timer e.0.protocol e.1.phase)) refl (rw other at busy)
+  where
+    by : (b : Bool) → nat_lt now (e.1.last + timer e.0.protocol e.1.phase) ≡ b → not b ≡ false
+        → now < e.1.last + timer e.0.protocol e.1.phase
+    by true q t = grind (arith, nat_tests)
+    by false q t = absurd (cc)
+
 -- The first idle mapping
 
 not_idle : (now time : ℕ) (row : Row) → IsBusyUntil time row → now ≤ time → row_is_idle now row ≡ false
 not_idle now time None busy from = refl
-not_idle now time (Some e) busy from =
-    let later : nat_lt now (e.1.last + timer e.0.protocol e.1.phase) ≡ true = grind (arith, nat_tests) in rw later refl
+not_idle now time (Some e) busy from = by (is_kept e.1.phase) refl
+  where
+    by : (b : Bool) → is_kept e.1.phase ≡ b → is_idle now e ≡ false
+    by true q = rw q refl
+    by false q =
+        let before : time < e.1.last + timer e.0.protocol e.1.phase = busy q in
+        let later : nat_lt now (e.1.last + timer e.0.protocol e.1.phase) ≡ true = grind (arith, nat_tests) in
+        rw (q, later) refl
 
 row_past : (rows : List Row) (at : ℕ) → length rows ≤ at → row_at rows at ≡ None
 row_past [] at past = refl
@@ -203,7 +225,7 @@ fewer_before now times at time first later =
     let new : nat_lt time now ≡ false = grind (arith, nat_tests) in
     let less = rw (old, new) at sums in omega arith
 
--- a mapping that is not there is not marked, and not refreshed
+-- a mapping that is not there is not marked, not refreshed, and in no other phase
 
 pub unmarked : (key : Endpoint) (seconds : ℕ) (segment : Segment) (es : List (Endpoint × Slot)) → slot_of key es ≡ None
     → es ≡ mark key seconds segment es
@@ -224,3 +246,14 @@ unused key now (e ∷ es) none = by (same_endpoint key e.0) refl (unused key now
         → e ∷ es ≡ refresh key now (e ∷ es)
     by true q behind = absurd (let h = rw q at none in cc)
     by false q behind = rw q (ap (λ rest. e ∷ rest) (behind (rw q at none)))
+
+pub not_in_phase : (key : Endpoint) (phase : Phase) (es : List (Endpoint × Slot)) → slot_of key es ≡ None
+    → es ≡ with_phase key phase es
+not_in_phase key phase [] none = refl
+not_in_phase key phase (e ∷ es) none = by (same_endpoint key e.0) refl none (not_in_phase key phase es)
+  where
+    by : (b : Bool) → same_endpoint key e.0 ≡ b → (if b then Some e.1 else slot_of key es) ≡ None
+        → (slot_of key es ≡ None → es ≡ with_phase key phase es)
+        → e ∷ es ≡ with_phase key phase (e ∷ es)
+    by true q is behind = absurd (cc)
+    by false q is behind = rw q (ap (λ rest. e ∷ rest) (behind is))

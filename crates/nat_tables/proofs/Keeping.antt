@@ -4,10 +4,11 @@ use Rattle.std.specs.Prelude.{if◌then◌else◌}
 use Rattle.nat_tables.specs.declared.entries.Endpoint.{Endpoint}
 use Rattle.nat_tables.specs.declared.entries.PortKey.{PortKey}
 use Rattle.nat_tables.specs.declared.slot.Slot.{Slot}
+use Rattle.nat_tables.specs.declared.phase.Phase.{Phase}
 use Rattle.nat_tables.specs.declared.phase.Segment.{Segment}
 use Rattle.nat_tables.specs.Keys.{same_endpoint, same_port}
 use Rattle.nat_tables.specs.Forwards.{Forwards, is_idle, slot_of, refresh, without, first_idle, without_idle, Misses}
-use Rattle.nat_tables.specs.Forwards.{AreMappings, refreshed, marked, mark}
+use Rattle.nat_tables.specs.Forwards.{AreMappings, refreshed, marked, mark, in_phase, with_phase}
 use Rattle.nat_tables.specs.Reverses.{Reverses, bind, unbind, IsUnbound, AreBound}
 use Rattle.nat_tables.proofs.Counting.{same_is, port_is}
 
@@ -89,6 +90,34 @@ module _ (May : Endpoint → Slot → Type 0) where
           (may e.1 (subst (λ (x : Endpoint). May x e.1) (sym k) all.0)) in
           rw q (here, all.1, all.2)
       by false q behind = rw q (all.0, misses_marked key e.0 seconds segment es all.1, behind)
+
+  misses_in_phase : (key other : Endpoint) (phase : Phase) (es : Forwards) → Misses es other
+      → Misses (with_phase key phase es) other
+  misses_in_phase key other phase [] old = tt
+  misses_in_phase key other phase (e ∷ es) old =
+      by (same_endpoint key e.0) refl (misses_in_phase key other phase es old.1)
+    where
+      by : (b : Bool) → same_endpoint key e.0 ≡ b → (Misses (with_phase key phase es) other)
+          → Misses (with_phase key phase (e ∷ es)) other
+      by true q behind = rw q old
+      by false q behind = rw q (old.0, behind)
+
+  pub keeps_in_phase : (key : Endpoint) (phase : Phase) (es : Forwards)
+      → ((slot : Slot) → May key slot → May key (in_phase phase slot)) → AreMappings May es
+      → AreMappings May (with_phase key phase es)
+  keeps_in_phase key phase [] may all = tt
+  keeps_in_phase key phase (e ∷ es) may all =
+      by (same_endpoint key e.0) refl (keeps_in_phase key phase es may all.2)
+    where
+      by : (b : Bool) → same_endpoint key e.0 ≡ b → (AreMappings May (with_phase key phase es))
+          → AreMappings May (with_phase key phase (e ∷ es))
+      by true q behind =
+          let k : key ≡ e.0 = same_is key e.0 q in
+          let here : May e.0 (in_phase phase e.1) =
+          subst (λ (x : Endpoint). May x (in_phase phase e.1)) k
+          (may e.1 (subst (λ (x : Endpoint). May x e.1) (sym k) all.0)) in
+          rw q (here, all.1, all.2)
+      by false q behind = rw q (all.0, misses_in_phase key e.0 phase es all.1, behind)
 
   misses_without : (key other : Endpoint) (es : Forwards) → Misses es other → Misses (without key es) other
   misses_without key other [] old = tt

@@ -1,5 +1,6 @@
 pub mod Counting
 pub mod Keeping
+pub mod Keepings
 pub mod Pooling
 pub mod TableLemmas
 pub mod Parity

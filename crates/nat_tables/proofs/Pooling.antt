@@ -1,12 +1,16 @@
 -- How the pool's operations change how often a port is free.
 use Rattle.std.proofs.Common.{◌≡◌, ℕ, zero, suc, ◌+◌, ◌-◌, ◌≤◌, Bool, true, false, List, [], ◌∷◌, refl, subst, arith}
+use Rattle.std.proofs.Common.{ap, ◌∙◌}
+use Rattle.std.specs.Prelude.{if◌then◌else◌}
+use Rattle.std.proofs.lemmas.Bool.{eqb-true}
 use Rattle.std.proofs.Common.{Option, Some, None}
 use Rattle.std.specs.Prelude.{◌&&◌, ◌==◌, nat_lt, not}
 use Rattle.std.proofs.lemmas.Bool.Decides.{nat_tests}
 use Rattle.nat_tables.specs.declared.entries.PortKey.{PortKey}
 use Rattle.nat_tables.specs.Ports.{Ports, PoolPorts, chosen, of_even, of_odd, is_even, reserved_of, with_port}
 use Rattle.nat_tables.specs.Ports.{given_back_to, reserve, is_in_range, give_back, ports_from, no_ports, full_pool}
-use Rattle.nat_tables.specs.Ports.{one_if, count_port, free_in, free_of, of_range}
+use Rattle.nat_tables.specs.Ports.{one_if, count_port, free_in, free_of, of_range, has_port, ports_without}
+use Rattle.nat_tables.specs.Ports.{pool_without}
 use Rattle.nat_tables.specs.Keys.{same_port, port_key}
 use Rattle.nat_tables.proofs.Counting.{count_chosen, count_with}
 
@@ -228,3 +232,138 @@ free_full k low high order = by (k.protocol == 6) (k.protocol == 17) refl refl
     by true c e f = rw e each
     by false true e f = rw (e, f) each
     by false false e f = rw (e, f) refl
+
+-- a pool without the ports of a list has each other port of its range once
+
+module _ (out : List PortKey) (protocol k : ℕ) where
+  count_out : (low n : ℕ) → has_port (port_key protocol k) out ≡ true
+      → free_in k (ports_without out protocol low n) ≡ 0
+  count_out low zero is = refl
+  count_out low (suc n) is =
+      by (has_port (port_key protocol (low + n)) out) (low + n == k) refl refl (count_out low n is)
+    where
+      by : (h z : Bool) → has_port (port_key protocol (low + n)) out ≡ h → (low + n == k) ≡ z
+          → free_in k (ports_without out protocol low n) ≡ 0
+          → free_in k (ports_without out protocol low (suc n)) ≡ 0
+      by true z e f rest = rw e rest
+      by false true e f rest =
+          let same : low + n ≡ k = eqb-true _ _ f in
+          let none : has_port (port_key protocol k) out ≡ false =
+          subst (λ (p : ℕ). has_port (port_key protocol p) out ≡ false) same e in
+          absurd (cc)
+      by false false e f rest =
+          rw e (count_given_other k (low + n) (ports_without out protocol low n) f ∙ rest)
+
+  abbrev within : ℕ → ℕ → Bool
+  within low n = not (nat_lt k low) && nat_lt k (low + n)
+
+  window_grows : (low n : ℕ) (x y z : Bool) → nat_lt k low ≡ x → nat_lt k (low + n) ≡ y → (low + n == k) ≡ z
+      → one_if (within low (suc n)) ≡ one_if (within low n) + one_if (low + n == k)
+  window_grows low n true y true e f g = absurd (grind (arith, nat_tests))
+  window_grows low n true y false e f g = rw (e, g) refl
+  window_grows low n false true true e f g = absurd (grind (arith, nat_tests))
+  window_grows low n false true false e f g =
+      let h : nat_lt k (low + suc n) ≡ true = grind (arith, nat_tests) in rw (e, f, g, h) refl
+  window_grows low n false false true e f g =
+      let h : nat_lt k (low + suc n) ≡ true = grind (arith, nat_tests) in rw (e, f, g, h) refl
+  window_grows low n false false false e f g =
+      let h : nat_lt k (low + suc n) ≡ false = grind (arith, nat_tests) in rw (e, f, g, h) refl
+
+count_in : (out : List PortKey) (protocol k low n : ℕ) → has_port (port_key protocol k) out ≡ false
+    → free_in k (ports_without out protocol low n) ≡ one_if (not (nat_lt k low) && nat_lt k (low + n))
+count_in out protocol k low zero is =
+    let h : (not (nat_lt k low) && nat_lt k (low + 0)) ≡ false = grind (arith, nat_tests) in rw h refl
+count_in out protocol k low (suc n) is =
+    by (has_port (port_key protocol (low + n)) out) refl (count_in out protocol k low n is)
+    (λ h. count_in out protocol (low + n) low n h)
+  where
+    grows : one_if (not (nat_lt k low) && nat_lt k (low + suc n))
+        ≡ one_if (not (nat_lt k low) && nat_lt k (low + n)) + one_if (low + n == k)
+    grows =
+        window_grows out protocol k low n (nat_lt k low) (nat_lt k (low + n)) (low + n == k) refl refl refl
+
+    no : (b : Bool) → (b && false) ≡ false
+    no true = refl
+    no false = refl
+
+    other : has_port (port_key protocol (low + n)) out ≡ true → (z : Bool) → (low + n == k) ≡ z
+        → one_if (low + n == k) ≡ 0
+    other e true f =
+        let same : low + n ≡ k = eqb-true _ _ f in
+        let there : has_port (port_key protocol k) out ≡ true =
+        subst (λ (p : ℕ). has_port (port_key protocol p) out ≡ true) same e in
+        absurd (cc)
+    other e false f = rw f refl
+
+    by : (h : Bool) → has_port (port_key protocol (low + n)) out ≡ h
+        → free_in k (ports_without out protocol low n) ≡ one_if (not (nat_lt k low) && nat_lt k (low + n))
+        → (has_port (port_key protocol (low + n)) out ≡ false
+        → free_in (low + n) (ports_without out protocol low n)
+        ≡ one_if (not (nat_lt (low + n) low) && nat_lt (low + n) (low + n)))
+        → free_in k (ports_without out protocol low (suc n)) ≡ one_if (not (nat_lt k low) && nat_lt k (low + suc n))
+    by true e rest there = let o = other e (low + n == k) refl in rw e (omega (arith, grows))
+    by false e rest there =
+        let new : free_in (low + n) (ports_without out protocol low n) ≡ 0 =
+        (let a = there e in
+        let h : nat_lt (low + n) (low + n) ≡ false = grind (arith, nat_tests) in
+        let g : (not (nat_lt (low + n) low) && nat_lt (low + n) (low + n)) ≡ false = rw h (no _) in
+        let f : one_if (not (nat_lt (low + n) low) && nat_lt (low + n) (low + n)) ≡ 0 = rw g refl in omega arith) in
+        let a = count_given k (low + n) (ports_without out protocol low n) new in
+        rw e (omega (arith, grows))
+
+pub without_next : (out : List PortKey) (protocol low number : ℕ) → low ≤ number
+    → ports_without out protocol low (number + 1 - low)
+    ≡ (if has_port (port_key protocol number) out then ports_without out protocol low (number - low)
+    else given_back_to number (ports_without out protocol low (number - low)))
+without_next out protocol low number above =
+    let next : number + 1 - low ≡ suc (number - low) = omega arith in
+    let same : low + (number - low) ≡ number = omega arith in
+    ap (ports_without out protocol low) next
+    ∙ ap (λ p. if has_port (port_key protocol p) out then ports_without out protocol low (number - low)
+    else given_back_to p (ports_without out protocol low (number - low))) same
+
+-- 1 for a port of the range that is not of the list
+abbrev pub range_without : List PortKey → ℕ → ℕ → PortKey → ℕ
+range_without out low high k = if has_port k out then 0 else of_range low high k
+
+pub free_without : (out : List PortKey) (k : PortKey) (low high : ℕ) → low ≤ high
+    → free_of k.protocol k.port (pool_without out low high) ≡ range_without out low high k
+free_without out k low high order = by (k.protocol == 6) (k.protocol == 17) (has_port k out) refl refl refl
+  where
+    each : (protocol : ℕ) → k.protocol ≡ protocol → has_port k out ≡ false
+        → free_in k.port (ports_without out protocol low (high + 1 - low))
+        ≡ one_if (not (nat_lt k.port low) && not (nat_lt high k.port))
+    each protocol same is =
+        let there : has_port (port_key protocol k.port) out ≡ false =
+        subst (λ (p : ℕ). has_port (port_key p k.port) out ≡ false) same is in
+        let a = count_in out protocol k.port low (high + 1 - low) there in
+        let b : nat_lt k.port (low + (high + 1 - low)) ≡ not (nat_lt high k.port) = grind (arith, nat_tests) in
+        subst (λ (t : Bool).
+        free_in k.port (ports_without out protocol low (high + 1 - low)) ≡ one_if (not (nat_lt k.port low) && t)) b a
+
+    none : (protocol : ℕ) → k.protocol ≡ protocol → has_port k out ≡ true
+        → free_in k.port (ports_without out protocol low (high + 1 - low)) ≡ 0
+    none protocol same is =
+        count_out out protocol k.port low (high + 1 - low)
+        (subst (λ (p : ℕ). has_port (port_key p k.port) out ≡ true) same is)
+
+    by : (b c h : Bool) → (k.protocol == 6) ≡ b → (k.protocol == 17) ≡ c → has_port k out ≡ h
+        → free_of k.protocol k.port (pool_without out low high) ≡ range_without out low high k
+    by true c true e f g = rw (e, g) (none 6 (eqb-true _ _ e) g)
+    by true c false e f g = rw (e, g) (each 6 (eqb-true _ _ e) g)
+    by false true true e f g = rw (e, f, g) (none 17 (eqb-true _ _ f) g)
+    by false true false e f g = rw (e, f, g) (each 17 (eqb-true _ _ f) g)
+    by false false true e f g = rw (e, f, g) refl
+    by false false false e f g = rw (e, f, g) refl
+
+-- without any port of a list it is the full pool
+
+ports_with_all : (protocol low n : ℕ) → ports_without [] protocol low n ≡ ports_from low n no_ports
+ports_with_all protocol low zero = refl
+ports_with_all protocol low (suc n) = ap (given_back_to (low + n)) (ports_with_all protocol low n)
+
+pub pool_with_all : (low high : ℕ) → pool_without [] low high ≡ full_pool low high
+pool_with_all low high =
+    let a = ports_with_all 6 low (high + 1 - low) in
+    let b = ports_with_all 17 low (high + 1 - low) in
+    λ i. record { low = low; high = high; tcp = a i; udp = b i }

@@ -7,8 +7,10 @@ use Rattle.nat_tables.specs.declared.entries.Endpoint.{Endpoint}
 use Rattle.nat_tables.specs.declared.entries.PortKey.{PortKey}
 use Rattle.nat_tables.specs.Keys.{same_port, same_endpoint}
 use Rattle.nat_tables.specs.declared.slot.Slot.{Slot}
+use Rattle.nat_tables.specs.declared.phase.Phase.{Phase}
 use Rattle.nat_tables.specs.declared.phase.Segment.{Segment}
-use Rattle.nat_tables.specs.Forwards.{Forwards, slot_of, refreshed, refresh, marked, mark, without}
+use Rattle.nat_tables.specs.Forwards.{Forwards, slot_of, refreshed, refresh, marked, mark, in_phase}
+use Rattle.nat_tables.specs.Forwards.{with_phase, without}
 use Rattle.nat_tables.specs.Reverses.{Reverses, endpoint_of, bind, unbind}
 use Rattle.nat_tables.proofs.Counting.{same_is}
 
@@ -79,6 +81,18 @@ noted key seconds segment slot (e ∷ es) is =
     by true q is behind = let s : slot ≡ e.1 = cc in rw (q, s) refl
     by false q is behind = rw q (ap (λ rest. e ∷ rest) (behind is))
 
+put_in_phase : (key : Endpoint) (phase : Phase) (slot : Slot) (es : Forwards) → slot_of key es ≡ Some slot
+    → insert_entry same_endpoint es key (in_phase phase slot) ≡ with_phase key phase es
+put_in_phase key phase slot [] is = absurd (cc)
+put_in_phase key phase slot (e ∷ es) is = by (same_endpoint key e.0) refl is (put_in_phase key phase slot es)
+  where
+    by : (t : Bool) → same_endpoint key e.0 ≡ t → (if t then Some e.1 else slot_of key es) ≡ Some slot
+        → (slot_of key es ≡ Some slot
+        → insert_entry same_endpoint es key (in_phase phase slot) ≡ with_phase key phase es)
+        → insert_entry same_endpoint (e ∷ es) key (in_phase phase slot) ≡ with_phase key phase (e ∷ es)
+    by true q is behind = let s : slot ≡ e.1 = cc in rw (q, s) refl
+    by false q is behind = rw q (ap (λ rest. e ∷ rest) (behind is))
+
 appended : (key : Endpoint) (slot : Slot) (es : Forwards) → slot_of key es ≡ None
     → insert_entry same_endpoint es key slot ≡ es ++ (key, slot) ∷ []
 appended key slot [] is = refl
@@ -120,6 +134,11 @@ module _ (eq : Endpoint → Endpoint → Bool) (derived : (a b : Endpoint)
       → insert_entry eq es key (marked seconds segment slot) ≡ mark key seconds segment es
   noted_by key seconds segment slot es is =
       ap (λ test. insert_entry test es key (marked seconds segment slot)) eqs ∙ noted key seconds segment slot es is
+
+  pub put_in_phase_by : (key : Endpoint) (phase : Phase) (slot : Slot) (es : Forwards) → slot_of key es ≡ Some slot
+      → insert_entry eq es key (in_phase phase slot) ≡ with_phase key phase es
+  put_in_phase_by key phase slot es is =
+      ap (λ test. insert_entry test es key (in_phase phase slot)) eqs ∙ put_in_phase key phase slot es is
 
   pub appended_by : (key : Endpoint) (slot : Slot) (es : Forwards) → slot_of key es ≡ None
       → insert_entry eq es key slot ≡ es ++ (key, slot) ∷ []

@@ -10,16 +10,17 @@ use Rattle.nat_tables.specs.declared.entries.Find.TheVariants.{Live, Absent}
 use Rattle.nat_tables.specs.declared.entries.Bind.{Bind}
 use Rattle.nat_tables.specs.declared.entries.Bind.TheVariants.{Bound, Other}
 use Rattle.nat_tables.specs.declared.entries.Mapping.{Mapping}
-use Rattle.nat_tables.specs.declared.phase.Phase.TheVariants.{Plain}
+use Rattle.nat_tables.specs.declared.phase.Phase.{Phase}
+use Rattle.nat_tables.specs.declared.phase.Phase.TheVariants.{Plain, Kept}
 use Rattle.nat_tables.specs.declared.phase.Segment.{Segment}
 use Rattle.nat_tables.specs.Keys.{same_endpoint, port_key}
-use Rattle.nat_tables.specs.Phases.{timer, phase_after}
+use Rattle.nat_tables.specs.Phases.{timer, is_kept, phase_after}
 
 abbrev pub Forwards : Type 0
 Forwards = List (Endpoint × Slot)
 
 abbrev pub is_idle : ℕ → Endpoint × Slot → Bool
-is_idle now e = not (nat_lt now (e.1.last + timer e.0.protocol e.1.phase))
+is_idle now e = not (is_kept e.1.phase) && not (nat_lt now (e.1.last + timer e.0.protocol e.1.phase))
 
 abbrev pub refreshed : ℕ → Slot → Slot
 refreshed now slot = record { port = slot.port; last = max slot.last now; phase = slot.phase }
@@ -49,6 +50,16 @@ mark key seconds segment [] = []
 mark key seconds segment (e ∷ es) =
     if same_endpoint key e.0 then (e.0, marked seconds segment e.1) ∷ es else e ∷ mark key seconds segment es
 
+-- the mapping of an endpoint in another phase
+
+abbrev pub in_phase : Phase → Slot → Slot
+in_phase phase slot = record { port = slot.port; last = slot.last; phase = phase }
+
+abbrev pub with_phase : Endpoint → Phase → Forwards → Forwards
+with_phase key phase [] = []
+with_phase key phase (e ∷ es) =
+    if same_endpoint key e.0 then (e.0, in_phase phase e.1) ∷ es else e ∷ with_phase key phase es
+
 -- a removal closes up
 abbrev pub without : Endpoint → Forwards → Forwards
 without key [] = []
@@ -62,7 +73,12 @@ abbrev pub without_idle : ℕ → Forwards → Forwards
 without_idle now [] = []
 without_idle now (e ∷ es) = if is_idle now e then es else e ∷ without_idle now es
 
--- the first idle mapping is removed, and its port is the answer
+-- the first idle mapping is removed, and is the answer
+abbrev pub idle_taken : ℕ → Forwards → Option (Endpoint × Slot) → Option (Endpoint × Slot) × Forwards
+idle_taken now es (Some e) = (Some e, without_idle now es)
+idle_taken now es None = (None, es)
+
+-- or its port is
 abbrev pub idle_removed : ℕ → Forwards → Option (Endpoint × Slot) → Option PortKey × Forwards
 idle_removed now es (Some e) = (Some (port_of e), without_idle now es)
 idle_removed now es None = (None, es)
@@ -90,6 +106,21 @@ bound key port now es None = (Bound, es ++ (key, record { port = port; last = no
 -- A mapping that is there, idle or not, is refreshed and stays. Else the key is mapped to this port, and stands last.
 abbrev pub find_or_bind : Endpoint → ℕ → ℕ → Forwards → Bind × Forwards
 find_or_bind key port now es = bound key port now es (slot_of key es)
+
+abbrev pub kept_slot : ℕ → Slot
+kept_slot port = record { port = port; last = 0; phase = Kept }
+
+abbrev pub kept_by : Endpoint → ℕ → Forwards → Option Slot → Forwards
+kept_by key port es (Some slot) = es
+kept_by key port es None = es ++ (key, kept_slot port) ∷ []
+
+-- The key is mapped to this port for good, and stands last, unless it has a mapping.
+abbrev pub keep : Endpoint → ℕ → Forwards → Forwards
+keep key port es = kept_by key port es (slot_of key es)
+
+-- the key is mapped to this port for good
+abbrev pub HasKept : Endpoint → ℕ → Forwards → Type 0
+HasKept key port es = (slot : Slot) × (slot_of key es ≡ Some slot) × (slot.port ≡ port) × (slot.phase ≡ Kept)
 
 abbrev pub lives_at : Endpoint → ℕ → ℕ → Option Slot → Bool
 lives_at key port now None = false

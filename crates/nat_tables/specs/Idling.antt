@@ -2,15 +2,15 @@
 use Rattle.std.specs.Prelude.{◌≡◌, ℕ, ◌+◌, ◌<◌, ◌≤◌, Bool, true, false, List, length, Option, Some, None}
 use Rattle.nat_tables.specs.declared.entries.Endpoint.{Endpoint}
 use Rattle.nat_tables.specs.declared.slot.Slot.{Slot}
-use Rattle.nat_tables.specs.Phases.{timer}
+use Rattle.nat_tables.specs.Phases.{timer, is_kept}
 use Rattle.nat_tables.specs.Forwards.{is_idle}
 use Rattle.nat_tables.specs.Rows.{row_at}
 use Rattle.nat_tables.specs.Times.{time_at}
 
--- the mapping of a row is not idle up to this time
+-- the mapping of a row is not idle up to this time; one that is kept never is
 abbrev pub IsBusyUntil : ℕ → Option (Endpoint × Slot) → Type 0
 IsBusyUntil time None = Unit {0}
-IsBusyUntil time (Some e) = time < e.1.last + timer e.0.protocol e.1.phase
+IsBusyUntil time (Some e) = is_kept e.1.phase ≡ false → time < e.1.last + timer e.0.protocol e.1.phase
 
 -- each row has a time up to which its mapping is not idle
 pub record AreBusyUntil (times : List ℕ) (rows : List (Option (Endpoint × Slot))) : Type 0 where

@@ -1,9 +1,10 @@
 -- The pool: the free ports of each protocol in a range, those of each parity in increasing order (RFC 3022, section
 -- 2.2, the ports of one outside address; RFC 4787, REQ-3 and REQ-4).
-use Rattle.std.specs.Prelude.{◌≡◌, ℕ, zero, suc, ◌+◌, ◌-◌, ◌%◌, ◌^◌, ◌<◌, ◌≤◌, Bool, ◌&&◌, ◌==◌, nat_lt, not, true}
-use Rattle.std.specs.Prelude.{if◌then◌else◌, List, [], ◌∷◌, length, slice_index, Option, Some, None}
+use Rattle.std.specs.Prelude.{◌≡◌, ℕ, zero, suc, ◌+◌, ◌-◌, ◌%◌, ◌^◌, ◌<◌, ◌≤◌, Bool, ◌&&◌, ◌==◌, nat_lt, not}
+use Rattle.std.specs.Prelude.{true, false, if◌then◌else◌, List, [], ◌∷◌, length, slice_index, Option, Some, None}
 use Rattle.std.specs.List.{remove}
 use Rattle.nat_tables.specs.declared.entries.PortKey.{PortKey}
+use Rattle.nat_tables.specs.Keys.{same_port, port_key}
 
 -- the free ports of one protocol
 pub record Ports : Type 0 where
@@ -90,6 +91,27 @@ abbrev pub full_pool : ℕ → ℕ → PoolPorts
 full_pool low high =
     let ports = ports_from low (high + 1 - low) no_ports in
     record { low = low; high = high; tcp = ports; udp = ports }
+
+-- A pool that lacks the ports of a list
+
+abbrev pub has_port : PortKey → List PortKey → Bool
+has_port k [] = false
+has_port k (j ∷ js) = if same_port k j then true else has_port k js
+
+-- of this number of ports of a protocol from `low` on, those that are not of the list
+abbrev pub ports_without : List PortKey → ℕ → ℕ → ℕ → Ports
+ports_without out protocol low zero = no_ports
+ports_without out protocol low (suc n) =
+    if has_port (port_key protocol (low + n)) out then ports_without out protocol low n
+    else given_back_to (low + n) (ports_without out protocol low n)
+
+abbrev pub pool_without : List PortKey → ℕ → ℕ → PoolPorts
+pool_without out low high = record {
+  low = low;
+  high = high;
+  tcp = ports_without out 6 low (high + 1 - low);
+  udp = ports_without out 17 low (high + 1 - low);
+}
 
 -- how many ports of the protocol are free
 abbrev pub free_count : ℕ → PoolPorts → ℕ

@@ -2,7 +2,8 @@ ghost use Rattle.std.specs.Prelude.{◌≡◌, [], ◌∷◌, ◌++◌, Some, No
 ghost use Rattle.std.specs.Prelude.{ℕ, ◌+◌, ◌^◌, ◌<◌, ◌≤◌, false, length};
 ghost use Rattle.nat_tables.specs.Phases.{timer};
 ghost use Rattle.nat_tables.specs.Forwards.{slot_of, find, idle_removed, find_or_bind, refresh};
-ghost use Rattle.nat_tables.specs.Forwards.{without, lives, mapping_at, first_idle, is_idle, mark};
+ghost use Rattle.nat_tables.specs.Forwards.{without, lives, mapping_at, first_idle, is_idle, mark, keep};
+ghost use Rattle.nat_tables.specs.Forwards.{with_phase, idle_taken};
 ghost use Rattle.nat_tables.specs.Rows.{present, row_at};
 ghost use Rattle.nat_tables.specs.Idling.{AreBusyUntil, IsFirstIdle, NoneIsIdle, row_is_idle};
 ghost use Rattle.nat_tables.specs.Idling.{IsBusyUntil};
@@ -134,7 +135,7 @@ impl Forward {
     }
 
     /// What the endpoint is mapped to.
-    fn slot_of(&self, key: &Endpoint) -> Option<Slot>
+    pub fn slot_of(&self, key: &Endpoint) -> Option<Slot>
         ensures { result ≡ slot_of key.now self.now }
     {
         match self.slots.find(key) {
@@ -153,7 +154,7 @@ impl Forward {
     }
 
     /// Notes a use of an endpoint's mapping, which keeps its place.
-    fn refresh(&mut self, key: &Endpoint, now: u64)
+    pub fn refresh(&mut self, key: &Endpoint, now: u64)
         ensures { self.new ≡ refresh key.now now self.old }
     {
         if let Some((at, slot)) = self.slots.find(key) {
@@ -173,6 +174,17 @@ impl Forward {
         }
     }
 
+    /// Puts an endpoint's mapping into another phase, if there is one.
+    pub fn set_phase(&mut self, key: &Endpoint, phase: Phase)
+        ensures { self.new ≡ with_phase key.now phase self.old }
+    {
+        if let Some((at, slot)) = self.slots.find(key) {
+            let later = slot.in_phase(phase);
+            self.slots.put(at, later);
+            self.busy_until.set(at, later.busy_until(key));
+        }
+    }
+
     /// Maps an endpoint that has no mapping; it stands last.
     fn append(&mut self, key: &Endpoint, slot: Slot) -> Result<(), NoMemory>
         requires { slot_of key.now self.old ≡ None }
@@ -186,14 +198,22 @@ impl Forward {
         Ok(())
     }
 
-    /// Removes the first mapping that is idle, if there is one, and answers its outside port.
-    fn remove_first_idle(&mut self, now: u64) -> Option<Freed>
-        ensures { (result, self.new) ≡ idle_removed now self.old (first_idle now self.old) }
+    /// Removes the first mapping that is idle, in first-seen order, if there is one, and answers it.
+    pub fn take_first_idle(&mut self, now: u64) -> Option<(Endpoint, Slot)>
+        ensures { (result, self.new) ≡ idle_taken now self.old (first_idle now self.old) }
     {
         let at = first_idle(&self.slots, &mut self.busy_until, now)?;
         let (key, slot) = self.slots.row(at)?;
         self.slots.clear(at);
         self.busy_until.set(at, u64::MAX);
+        Some((key, slot))
+    }
+
+    /// Removes the first mapping that is idle, if there is one, and answers its outside port.
+    fn remove_first_idle(&mut self, now: u64) -> Option<Freed>
+        ensures { (result, self.new) ≡ idle_removed now self.old (first_idle now self.old) }
+    {
+        let (key, slot) = self.take_first_idle(now)?;
         Some(Freed {
             protocol: key.protocol,
             port: slot.port,
@@ -238,6 +258,24 @@ impl Forward {
         };
         self.append(key, slot)?;
         Ok(Bind::Bound)
+    }
+
+    /// Maps the endpoint to this outside port for good, unless it has a mapping. Nothing removes the new mapping but
+    /// `remove`, and it stands last.
+    pub fn keep(&mut self, key: &Endpoint, port: u16) -> Result<(), NoMemory>
+        ensures ok { OnOk result (self.new ≡ keep key.now port self.old) }
+        ensures err { OnErr result (self.new ≡ self.old) }
+    {
+        if let Some(_kept) = self.slot_of(key) {
+            return Ok(());
+        }
+        let slot = Slot {
+            port,
+            last: 0,
+            phase: Phase::Kept,
+        };
+        self.append(key, slot)?;
+        Ok(())
     }
 
     /// Whether the endpoint is mapped to this outside port, and the mapping is not idle. It refreshes nothing.

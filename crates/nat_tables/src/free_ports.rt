@@ -1,8 +1,11 @@
 ghost use Rattle.std.specs.Prelude.{◌≡◌, ℕ, ◌+◌, ◌-◌, ◌<◌, ◌≤◌, Some, None, MatchOption, IfOk};
-ghost use Rattle.std.specs.Prelude.{length};
+ghost use Rattle.std.specs.Prelude.{length, if◌then◌else◌};
 ghost use Rattle.nat_tables.specs.Ports.{chosen, reserved_of, given_back_to, ports_from, no_ports};
+ghost use Rattle.nat_tables.specs.Ports.{has_port, ports_without};
+ghost use Rattle.nat_tables.specs.Keys.{port_key};
 ghost use Rattle.nat_tables.specs.Placing.{groups_ports};
 
+use crate::PortKey;
 use crate::parity_ports::ParityPorts;
 use plain_text::NoMemory;
 use std::alloc::Global;
@@ -41,6 +44,18 @@ fn choose(ports: &mut ParityPorts, parity: u16, draw: u64) -> Option<u16>
     Some(ports.take(parity, at))
 }
 
+/// Whether a port of a protocol stands in a list.
+fn has_port(list: &[PortKey], protocol: u8, port: u16) -> bool
+    ensures { result ≡ has_port (port_key protocol port) list.now }
+{
+    for other in list {
+        if protocol == other.protocol && port == other.port {
+            return true;
+        }
+    }
+    false
+}
+
 impl FreePorts {
     /// All ports from `low` to `high`.
     pub(crate) fn full(alloc: Global, low: u16, high: u16) -> Result<Self, NoMemory>
@@ -53,6 +68,39 @@ impl FreePorts {
         };
         for number in u32::from(low)..u32::from(high) + 1 {
             ports.give_back(number as u16);
+        }
+        Ok(ports)
+    }
+
+    /// Makes a port of a protocol free, unless it stands in the list.
+    fn give_back_unless(&mut self, out: &[PortKey], protocol: u8, port: u16)
+        ensures { self.new ≡ (if has_port (port_key protocol port) out.now then self.old
+            else given_back_to port self.old) }
+    {
+        if !has_port(out, protocol, port) {
+            self.give_back(port);
+        }
+    }
+
+    /// The ports of a protocol from `low` to `high` that are not of this list.
+    #[tactic(auto, using(crate::proofs::Pooling::without_next))]
+    pub(crate) fn without(
+        alloc: Global,
+        out: &[PortKey],
+        protocol: u8,
+        low: u16,
+        high: u16,
+    ) -> Result<Self, NoMemory>
+        requires { low ≤ high }
+        ensures { IfOk result (λ ports. ports
+            ≡ ports_without out.now protocol low (high + 1 - low)) }
+    {
+        let mut ports = FreePorts {
+            even: ParityPorts::empty(alloc)?,
+            odd: ParityPorts::empty(alloc)?,
+        };
+        for number in u32::from(low)..u32::from(high) + 1 {
+            ports.give_back_unless(out, protocol, number as u16);
         }
         Ok(ports)
     }

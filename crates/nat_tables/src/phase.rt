@@ -1,5 +1,5 @@
-/// How far a TCP connection has come, by the segments that the inside endpoint of its mapping sent. It says how long
-/// the mapping is kept without use (RFC 5382, REQ-5).
+/// How far a TCP connection has come, by the segments of it that were seen. It says how long its mapping is kept
+/// without use (RFC 5382, REQ-5).
 #[derive(Clone, Copy, Debug, PartialEq, Eq)]
 pub enum Phase {
     /// It is not followed: the mapping is kept as long as its protocol says.
@@ -10,6 +10,12 @@ pub enum Phase {
     Established,
     /// It was ended: the mapping is kept for so many seconds, and at least one.
     Closing(u32),
+    /// Its client ended it, and its server did not yet: the mapping is kept as long as its protocol says.
+    EndedByClient,
+    /// Its server ended it, and its client did not yet: the mapping is kept as long as its protocol says.
+    EndedByServer,
+    /// The mapping is kept for good: it is never idle, whatever is sent.
+    Kept,
 }
 
 /// What a segment tells of its connection, by its control bits (RFC 9293, section 3.1).

@@ -1,7 +1,8 @@
 ghost use Rattle.std.specs.Prelude.{◌≡◌, ◌≤◌, IfOk};
-ghost use Rattle.nat_tables.specs.Ports.{reserve, give_back, full_pool, free_count};
+ghost use Rattle.nat_tables.specs.Ports.{reserve, give_back, full_pool, pool_without, free_count};
 ghost use Rattle.nat_tables.specs.Shown.{pool_text};
 
+use crate::PortKey;
 use crate::free_ports::FreePorts;
 use crate::showing::text_of_pool;
 use plain_text::{NoMemory, Text};
@@ -38,6 +39,20 @@ impl Pool {
             high,
             tcp: FreePorts::full(alloc, low, high)?,
             udp: FreePorts::full(alloc, low, high)?,
+        })
+    }
+
+    /// The ports from `low` to `high` that are not of this list. There is room to give each port of the range back.
+    pub fn without(alloc: Global, out: &[PortKey], low: u16, high: u16) -> Result<Self, NoMemory>
+        requires some { 1 ≤ low }
+        requires order { low ≤ high }
+        ensures { IfOk result (λ pool. pool ≡ pool_without out.now low high) }
+    {
+        Ok(Pool {
+            low,
+            high,
+            tcp: FreePorts::without(alloc, out, 6, low, high)?,
+            udp: FreePorts::without(alloc, out, 17, low, high)?,
         })
     }
 

@@ -1,6 +1,7 @@
-ghost use Rattle.std.specs.Prelude.{◌≡◌, ℕ, ◌+◌, ◌^◌, ◌<◌, ◌≤◌, false};
-ghost use Rattle.nat_tables.specs.Phases.{protocol_timer, timer, phase_after};
-ghost use Rattle.nat_tables.specs.Forwards.{is_idle, refreshed, marked};
+ghost use Rattle.std.specs.Prelude.{◌≡◌, ℕ, ◌+◌, ◌^◌, ◌<◌, ◌≤◌, false, nat_lt, not, Some};
+ghost use Rattle.nat_tables.specs.Phases.{protocol_timer, timer, is_kept, phase_after};
+ghost use Rattle.nat_tables.specs.Forwards.{is_idle, refreshed, marked, in_phase};
+ghost use Rattle.nat_tables.specs.Idling.{IsBusyUntil};
 
 use crate::{Endpoint, Phase, Segment};
 
@@ -28,28 +29,47 @@ impl Phase {
         ensures some { 1 ≤ result }
     {
         match self {
-            Phase::Plain | Phase::Established => protocol_timer(protocol),
+            Phase::Plain
+            | Phase::Established
+            | Phase::EndedByClient
+            | Phase::EndedByServer
+            | Phase::Kept => protocol_timer(protocol),
             Phase::Opening(seconds) | Phase::Closing(seconds) => {
                 u64::from(seconds.max(1)) * SECOND
             }
         }
     }
 
+    /// Whether the mapping is never idle, whatever its timer.
+    fn is_kept(self) -> bool
+        ensures { result ≡ is_kept self }
+    {
+        matches!(&self, Phase::Kept)
+    }
+
     /// The phase after a segment, where a connection that is not established is kept for so many seconds.
     fn after(self, seconds: u32, segment: Segment) -> Phase
         ensures { result ≡ phase_after seconds segment self }
     {
+        if self.is_kept() {
+            return self;
+        }
         match segment {
             Segment::Opens => Phase::Opening(seconds),
             Segment::Closes => Phase::Closing(seconds),
             Segment::Silent => match self {
                 Phase::Plain | Phase::Opening(_) => Phase::Opening(seconds),
-                Phase::Established => Phase::Established,
-                Phase::Closing(_) => Phase::Closing(seconds),
+                Phase::Established | Phase::Kept => self,
+                Phase::Closing(_) | Phase::EndedByClient | Phase::EndedByServer => {
+                    Phase::Closing(seconds)
+                }
             },
             Segment::Carries => match self {
-                Phase::Closing(_) => Phase::Closing(seconds),
+                Phase::Closing(_) | Phase::EndedByClient | Phase::EndedByServer => {
+                    Phase::Closing(seconds)
+                }
                 Phase::Plain | Phase::Opening(_) | Phase::Established => Phase::Established,
+                Phase::Kept => Phase::Kept,
             },
         }
     }
@@ -67,21 +87,41 @@ pub struct Slot {
 }
 
 impl Slot {
-    /// Whether this mapping of the endpoint is idle: it was not used for the timer of its protocol and phase. It is not
-    /// idle before its last use.
-    pub(crate) fn is_idle(&self, key: &Endpoint, now: u64) -> bool
-        ensures { result ≡ is_idle now (key.now, self.now) }
+    /// Whether this mapping of the endpoint was not used for the timer of its protocol and phase.
+    fn is_past(&self, key: &Endpoint, now: u64) -> bool
+        ensures { result
+            ≡ not (nat_lt now (self.now.last + timer key.now.protocol self.now.phase)) }
     {
         now >= self.last && now - self.last >= self.phase.timer(key.protocol)
     }
 
+    /// Whether this mapping of the endpoint is idle: it was not used for the timer of its protocol and phase. It is not
+    /// idle before its last use, and never where it is kept.
+    pub fn is_idle(&self, key: &Endpoint, now: u64) -> bool
+        ensures { result ≡ is_idle now (key.now, self.now) }
+    {
+        !self.phase.is_kept() && self.is_past(key, now)
+    }
+
+    /// The last time at which this mapping of the endpoint is not past, of those that there are.
+    fn used_until(&self, key: &Endpoint) -> u64
+        ensures used { result < self.now.last + timer key.now.protocol self.now.phase }
+        ensures last { (now : ℕ) → now < 2 ^ 64
+            → now < self.now.last + timer key.now.protocol self.now.phase → now ≤ result }
+    {
+        self.last.saturating_add(self.phase.timer(key.protocol) - 1)
+    }
+
     /// The last time at which this mapping of the endpoint is not idle, of those that there are.
     pub(crate) fn busy_until(&self, key: &Endpoint) -> u64
-        ensures busy { result < self.now.last + timer key.now.protocol self.now.phase }
+        ensures busy { IsBusyUntil result (Some (key.now, self.now)) }
         ensures last { (now : ℕ) → now < 2 ^ 64 → is_idle now (key.now, self.now) ≡ false
             → now ≤ result }
     {
-        self.last.saturating_add(self.phase.timer(key.protocol) - 1)
+        if self.phase.is_kept() {
+            return u64::MAX;
+        }
+        self.used_until(key)
     }
 
     /// The mapping after a use. Its last use does not go back where time does.
@@ -103,6 +143,17 @@ impl Slot {
             port: self.port,
             last: self.last,
             phase: self.phase.after(seconds, segment),
+        }
+    }
+
+    /// The mapping in another phase.
+    pub(crate) fn in_phase(&self, phase: Phase) -> Slot
+        ensures { result ≡ in_phase phase self.now }
+    {
+        Slot {
+            port: self.port,
+            last: self.last,
+            phase,
         }
     }
 }

@@ -4,24 +4,24 @@ ghost use Rattle.packet_headers.specs.Fields.{AreBytes, word_at, long_at, put_wo
 /// Where the fields of an Ethernet frame that carries IPv4 stand (RFC 791, section 3.1).
 pub(crate) const ETHER_TYPE: usize = 12;
 
-pub(crate) const IP_HEADER: usize = 14;
+pub const IP_HEADER: usize = 14;
 
-pub(crate) const TOTAL_LENGTH: usize = 16;
+pub const TOTAL_LENGTH: usize = 16;
 
 pub(crate) const FLAGS_AND_OFFSET: usize = 20;
 
-pub(crate) const PROTOCOL: usize = 23;
+pub const PROTOCOL: usize = 23;
 
-pub(crate) const HEADER_CHECKSUM: usize = 24;
+pub const HEADER_CHECKSUM: usize = 24;
 
-pub(crate) const SOURCE_ADDRESS: usize = 26;
+pub const SOURCE_ADDRESS: usize = 26;
 
-pub(crate) const DESTINATION_ADDRESS: usize = 30;
+pub const DESTINATION_ADDRESS: usize = 30;
 
 pub(crate) const IP_OPTIONS: usize = 34;
 
 /// The 16-bit number at a place, high byte first.
-pub(crate) fn word_at(frame: &[u8], place: usize) -> u16
+pub fn word_at(frame: &[u8], place: usize) -> u16
     requires { place + 1 < length frame.now }
     ensures { result ≡ word_at frame.now place }
 {
@@ -29,7 +29,7 @@ pub(crate) fn word_at(frame: &[u8], place: usize) -> u16
 }
 
 /// The 32-bit number at a place, high byte first.
-pub(crate) fn long_at(frame: &[u8], place: usize) -> u32
+pub fn long_at(frame: &[u8], place: usize) -> u32
     requires { place + 3 < length frame.now }
     ensures value { result ≡ long_at frame.now place }
     ensures bytes { AreBytes frame.now }
@@ -42,7 +42,8 @@ pub(crate) fn long_at(frame: &[u8], place: usize) -> u32
     ])
 }
 
-pub(crate) fn put_word(frame: &mut [u8], place: usize, word: u16)
+/// Writes a 16-bit number at a place, high byte first.
+pub fn put_word(frame: &mut [u8], place: usize, word: u16)
     requires { place + 1 < length frame.old }
     ensures { frame.new ≡ put_word frame.old place word }
 {
@@ -51,7 +52,8 @@ pub(crate) fn put_word(frame: &mut [u8], place: usize, word: u16)
     frame[place + 1] = low;
 }
 
-pub(crate) fn put_long(frame: &mut [u8], place: usize, number: u32)
+/// Writes a 32-bit number at a place, high byte first.
+pub fn put_long(frame: &mut [u8], place: usize, number: u32)
     requires { place + 3 < length frame.old }
     ensures { frame.new ≡ put_long frame.old place number }
 {

@@ -2,9 +2,9 @@ ghost use Rattle.std.specs.Prelude.{◌≡◌};
 ghost use Rattle.packet_headers.specs.Steering.{steering_sum};
 
 /// The numbers of the protocols that have ports (RFC 790).
-pub(crate) const TCP: u8 = 6;
+pub const TCP: u8 = 6;
 
-pub(crate) const UDP: u8 = 17;
+pub const UDP: u8 = 17;
 
 /// A frame's TCP or UDP flow: its protocol, its two endpoints, and where its transport header begins.
 #[derive(Clone, Copy, Debug, PartialEq, Eq)]

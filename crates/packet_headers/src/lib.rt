@@ -9,6 +9,10 @@ mod flow;
 mod rewriting;
 mod viewing;
 
-pub use flow::{Flow, NotFlow, steering_sum};
-pub use rewriting::{set_dest, set_source};
+pub use fields::{
+    DESTINATION_ADDRESS, HEADER_CHECKSUM, IP_HEADER, PROTOCOL, SOURCE_ADDRESS, TOTAL_LENGTH,
+    long_at, put_long, put_word, word_at,
+};
+pub use flow::{Flow, NotFlow, TCP, UDP, steering_sum};
+pub use rewriting::{set_dest, set_source, written_checksum};
 pub use viewing::view;

@@ -99,7 +99,7 @@ fn checksum_place(flow: &Flow) -> usize
 
 /// A TCP or UDP checksum as it is written. A UDP checksum of 0 says that there is none, so it stays, and one that
 /// becomes 0 is written as all ones (RFC 768).
-fn written_checksum(protocol: u8, old: u16, adjusted: u16) -> u16
+pub fn written_checksum(protocol: u8, old: u16, adjusted: u16) -> u16
     ensures { result ≡ written_checksum protocol old adjusted }
 {
     if protocol == TCP {

@@ -160,13 +160,14 @@ fn reads_box_files(rt: HostRuntime) {
     }
 }
 
-/// Whether a text is no box file, with this text of its first fault.
-/// Whether the box file is one of a NAT with this number of seconds for connections that are not established.
+/// Whether the box file is one of a NAT or a balancer with this number of seconds for connections that are not
+/// established, or have ended.
 fn has_closing(text: &str, wanted: Option<u32>) -> bool {
     match read_box(text.as_bytes()) {
         Ok(conf) => match &conf.kind {
             BoxKind::Nat(nat) => nat.closing == wanted,
-            BoxKind::Count(_) | BoxKind::Monitor(_) | BoxKind::Balancer(_) => false,
+            BoxKind::Balancer(balancer) => balancer.closing == wanted,
+            BoxKind::Count(_) | BoxKind::Monitor(_) => false,
         },
         Err(_) => false,
     }
@@ -180,8 +181,58 @@ fn reads_the_line_closing(rt: HostRuntime) {
     assert!(rt; has_closing(without, None));
     assert!(rt; has_closing(with, Some(240)));
     assert!(rt; has_closing(most, Some(4_294_967_295)));
+    let balancer = "box balancer\nvirtual 10.0.0.1 53\nbackend 10.1.0.1 53";
+    let following = "box balancer\nvirtual 10.0.0.1 53\nclosing 01\nbackend 10.1.0.1 53";
+    assert!(rt; has_closing(balancer, None));
+    assert!(rt; has_closing(following, Some(1)));
 }
 
+/// Whether the box file is one of a NAT that lets errors of ICMP through or not, and has these static ports: of each
+/// the number of its protocol, its address, its port and its outside port.
+fn has_statics(text: &str, errors: bool, wanted: &[(u8, u32, u16, u16)]) -> bool {
+    let Ok(conf) = read_box(text.as_bytes()) else {
+        return false;
+    };
+    let BoxKind::Nat(nat) = &conf.kind else {
+        return false;
+    };
+    let statics = nat.statics.as_slice();
+    for (one, (protocol, address, port, outside)) in statics.iter().zip(wanted) {
+        if (one.protocol, one.address) != (*protocol, *address) {
+            return false;
+        }
+        if (one.port, one.outside) != (*port, *outside) {
+            return false;
+        }
+    }
+    nat.errors == errors && statics.len() == wanted.len()
+}
+
+#[test]
+fn reads_the_line_icmp(rt: HostRuntime) {
+    let without = "box nat\ninside 10.0.0.0 8\noutside 203.0.113.1";
+    let with = "box nat\n icmp\terrors\ninside 10.0.0.0 8\noutside 203.0.113.1";
+    assert!(rt; has_statics(without, false, &[]));
+    assert!(rt; has_statics(with, true, &[]));
+}
+
+#[test]
+fn reads_static_ports(rt: HostRuntime) {
+    let one = "box nat\ninside 10.0.0.0 8\noutside 203.0.113.1\nstatic tcp 10.0.0.5 80 8080";
+    assert!(rt; has_statics(one, false, &[(6, 167772165, 80, 8080)]));
+    let several =
+        "box nat\nstatic udp 10.0.0.5 53 53\nicmp errors\ninside 10.0.0.0 8\nstatic tcp 10.0.0.5 0053 53\n\
+        outside 203.0.113.1\nstatic tcp 255.255.255.255 65535 1\nstatic tcp 0.0.0.0 1 65535";
+    let wanted = [
+        (17, 167772165, 53, 53),
+        (6, 167772165, 53, 53),
+        (6, 4294967295, 65535, 1),
+        (6, 0, 1, 65535),
+    ];
+    assert!(rt; has_statics(several, true, &wanted));
+}
+
+/// Whether a text is no box file, with this text of its first fault.
 fn has_fault(alloc: Global, text: &str, wanted: &str) -> Result<bool, NoMemory> {
     match read_box(text.as_bytes()) {
         Ok(_) => Ok(false),
@@ -259,8 +310,85 @@ const NAT_FAULTS: [Row; 30] = [
     ("box nat\nports 1 2\nseed 1\nseed 1", "line 4: twice"),
 ];
 
+/// The same for its lines `icmp` and `static`.
+const STATIC_FAULTS: [Row; 32] = [
+    ("box nat\nicmp", "line 2: missing word"),
+    ("box nat\nicmp error", "line 2: unknown word"),
+    ("box nat\nicmp errors errors", "line 2: extra word"),
+    ("box nat\nicmp errors\nicmp errors", "line 3: twice"),
+    ("box nat\nicmp errors\nicmp all", "line 3: unknown word"),
+    ("box balancer\nicmp errors", "line 2: unknown word"),
+    ("box monitor\nicmp errors", "line 2: unknown word"),
+    ("box nat\nstatic", "line 2: missing word"),
+    ("box nat\nstatic tcp", "line 2: missing word"),
+    ("box nat\nstatic tcp 10.0.0.5", "line 2: missing word"),
+    ("box nat\nstatic tcp 10.0.0.5 80", "line 2: missing word"),
+    (
+        "box nat\nstatic udp 10.0.0.5 80 80 80",
+        "line 2: extra word",
+    ),
+    (
+        "box nat\nstatic icmp 10.0.0.5 80 80",
+        "line 2: unknown word",
+    ),
+    ("box nat\nstatic TCP 10.0.0.5 80 80", "line 2: unknown word"),
+    ("box nat\nstatic 10.0.0.5 80 80", "line 2: unknown word"),
+    ("box nat\nstatic tcp 10.0.0.256 80 80", "line 2: bad number"),
+    ("box nat\nstatic tcp 80 10.0.0.5 80", "line 2: bad number"),
+    ("box nat\nstatic tcp 10.0.0.5 x 80", "line 2: bad number"),
+    ("box nat\nstatic tcp 10.0.0.5 80 x", "line 2: bad number"),
+    ("box nat\nstatic tcp 10.0.0.5 0 80 1", "line 2: extra word"),
+    ("box nat\nstatic tcp 10.0.0.5 0 80", "line 2: out of range"),
+    ("box nat\nstatic tcp 10.0.0.5 80 0", "line 2: out of range"),
+    (
+        "box nat\nstatic tcp 10.0.0.5 65536 80",
+        "line 2: out of range",
+    ),
+    (
+        "box nat\nstatic udp 10.0.0.5 80 65536",
+        "line 2: out of range",
+    ),
+    (
+        "box balancer\nstatic tcp 10.0.0.5 80 80",
+        "line 2: unknown word",
+    ),
+    (
+        "box count\nstatic tcp 10.0.0.5 80 80",
+        "line 2: unknown word",
+    ),
+    (
+        "box nat\nstatic tcp 10.0.0.5 80 80\nstatic tcp 10.0.0.5 80 80",
+        "line 3: twice",
+    ),
+    (
+        "box nat\nstatic tcp 10.0.0.5 80 80\n#\nstatic tcp 10.0.0.5 0080 81",
+        "line 4: twice",
+    ),
+    (
+        "box nat\nstatic udp 10.0.0.5 80 80\nstatic udp 10.0.0.6 81 80",
+        "line 3: twice",
+    ),
+    (
+        "box nat\nstatic udp 10.0.0.5 80 80\nstatic udp 10.0.0.6 81 80\nseed x",
+        "line 3: twice",
+    ),
+    (
+        "box nat\nstatic udp 10.0.0.5 80 80\nseed x\nstatic udp 10.0.0.6 81 80",
+        "line 3: bad number",
+    ),
+    (
+        "box nat\nstatic tcp 10.0.0.5 80 80\nstatic udp 10.0.0.5 80 80\nstatic tcp 10.0.0.5 81 81",
+        "line 5: missing line",
+    ),
+];
+
 /// The same for a balancer.
-const BALANCER_FAULTS: [Row; 15] = [
+const BALANCER_FAULTS: [Row; 20] = [
+    ("box balancer\nclosing", "line 2: missing word"),
+    ("box balancer\nclosing 0", "line 2: out of range"),
+    ("box balancer\nclosing 4294967296", "line 2: out of range"),
+    ("box balancer\nclosing 1\nclosing 2", "line 3: twice"),
+    ("box balancer\nclosing 1 2", "line 2: extra word"),
     ("box balancer\n\n", "line 3: missing line"),
     ("box balancer\nvirtual 10.0.0.1 53", "line 3: missing line"),
     ("box balancer\nbackend 10.0.0.1 53", "line 3: missing line"),
@@ -297,7 +425,7 @@ const BALANCER_FAULTS: [Row; 15] = [
 ];
 
 /// All of them.
-const ALL_FAULTS: [&[Row]; 3] = [&FAULTS, &NAT_FAULTS, &BALANCER_FAULTS];
+const ALL_FAULTS: [&[Row]; 4] = [&FAULTS, &NAT_FAULTS, &STATIC_FAULTS, &BALANCER_FAULTS];
 
 #[test]
 fn names_the_first_fault(rt: HostRuntime) -> Result<(), Fail> {
@@ -328,5 +456,26 @@ fn backends_come_to(alloc: Global, count: u16, wanted: &str) -> Result<bool, NoM
 fn takes_64_backends_at_most(rt: HostRuntime) -> Result<(), Fail> {
     assert!(rt; backends_come_to(rt.alloc(), 64, "line 66: twice")?);
     assert!(rt; backends_come_to(rt.alloc(), 65, "line 67: out of range")?);
+    Ok(())
+}
+
+/// A box file of a NAT with this number of static ports, the last of which has the outside port of the first.
+fn with_statics(alloc: Global, count: u16) -> Result<String, NoMemory> {
+    let mut text = format!(in alloc; "box nat\n")?;
+    for port in 1..count {
+        text.push_str(format!(in alloc; "static tcp 10.0.0.1 {port} {port}\n")?.as_str())?;
+    }
+    text.push_str("static tcp 10.0.0.2 1 1\n")?;
+    Ok(text)
+}
+
+fn statics_come_to(alloc: Global, count: u16, wanted: &str) -> Result<bool, NoMemory> {
+    has_fault(alloc, with_statics(alloc, count)?.as_str(), wanted)
+}
+
+#[test]
+fn takes_64_static_ports_at_most(rt: HostRuntime) -> Result<(), Fail> {
+    assert!(rt; statics_come_to(rt.alloc(), 64, "line 65: twice")?);
+    assert!(rt; statics_come_to(rt.alloc(), 65, "line 66: out of range")?);
     Ok(())
 }

@@ -1,7 +1,7 @@
 use Rattle.std.proofs.Common.{◌≡◌}
-use Rattle.std.specs.Prelude.{[], length}
+use Rattle.std.specs.Prelude.{length}
 use Rattle.plain_text.specs.Lines.{counted_lines}
-use Rattle.box_conf.specs.Backends.{backends_after}
+use Rattle.box_conf.specs.Names.{named_in}
 use Rattle.std.specs.Str.Lines.{lines as lines_of}
 use Rattle.box_conf.specs.Reading.{described_box, conf_of, set_lines}
 use Rattle.box_conf.specs.Settings.{AreInRange}
@@ -11,7 +11,7 @@ use Rattle.box_conf.proofs.conf.read_settings.Given as goal
 abbrev pub invariant-loop-line : goal.invariant-loop-line
 invariant-loop-line l = record {
   text : described_box l.text
-      ≡ conf_of (length (lines_of l.text)) l.kind (backends_after [] (counted_lines l.text))
+      ≡ conf_of (length (lines_of l.text)) l.kind (named_in (counted_lines l.text))
       (set_lines l.kind l.settings l.line-iterator);
   in_range : AreInRange l.settings;
 }

@@ -1,0 +1,199 @@
+ghost use Rattle.std.specs.Prelude.{◌≡◌, ◌<◌, ◌≤◌, Some, None, IfOk, IfErr, length};
+ghost use Rattle.std.specs.List.{list_any};
+ghost use Rattle.plain_text.specs.Lines.{counted_lines};
+ghost use Rattle.box_conf.specs.Names.{no_names, name_of, name_cause, names_fault, named_in};
+ghost use Rattle.box_conf.specs.Names.{has_name, count_of, with_name, is_same, is_in_way};
+ghost use Rattle.box_conf.specs.Names.{backend_from, static_from, protocol_of};
+ghost use Rattle.box_conf.specs.Settings.{IsWithin};
+ghost use Rattle.box_conf.specs.declared.table.BoxLine.TheVariants as line;
+
+use crate::conf::fault_at;
+use crate::settings::read_line;
+use crate::table::{BoxLine, Values};
+use balancer_box::{Backend, Backends};
+use flow_boxes::{MOST, ShortList};
+use nat_box::StaticPort;
+use plain_text::{LineCause, LineFault, WordIter, lines, words};
+
+/// What the lines name that may stand again, in the order of the lines.
+#[derive(Debug, Drop)]
+pub struct Named {
+    pub backends: Backends,
+    pub statics: ShortList<StaticPort>,
+}
+
+/// What one such line names.
+#[derive(Clone, Copy, Debug, PartialEq, Eq)]
+pub enum Name {
+    Backend(Backend),
+    Static(StaticPort),
+}
+
+impl Named {
+    /// No names, which take no memory.
+    fn none() -> Named
+        ensures { result ≡ no_names }
+    {
+        Named {
+            backends: Backends::new(),
+            statics: ShortList::new(StaticPort {
+                protocol: 0,
+                address: 0,
+                port: 0,
+                outside: 0,
+            }),
+        }
+    }
+
+    /// One more name, which goes last.
+    fn add(&mut self, name: Name)
+        requires { count_of self.old name < 64 }
+        ensures { self.new ≡ with_name self.old name }
+    {
+        match name {
+            Name::Backend(backend) => self.backends.push(backend),
+            Name::Static(port) => self.statics.push(port),
+        }
+    }
+
+    /// Why a line may not have this name behind these: there are 64 of its row, or one is in its way.
+    fn refusal(&self, name: Name) -> Option<LineCause>
+        ensures value { result ≡ name_cause self.now (Some name) }
+        ensures room { result ≡ None → count_of self.now name < 64 }
+    {
+        if self.count(name) >= MOST {
+            return Some(LineCause::OutOfRange);
+        }
+        if self.has(name) {
+            Some(LineCause::Twice)
+        } else {
+            None
+        }
+    }
+
+    /// How many of the row of this name there are.
+    fn count(&self, name: Name) -> usize
+        ensures { result ≡ count_of self.now name }
+    {
+        match name {
+            Name::Backend(_) => self.backends.len(),
+            Name::Static(_) => self.statics.len(),
+        }
+    }
+
+    /// Whether one is there that may not stand beside this.
+    fn has(&self, name: Name) -> bool
+        ensures { result ≡ has_name self.now name }
+    {
+        match name {
+            Name::Backend(backend) => has_backend(&self.backends, backend),
+            Name::Static(port) => has_in_way(&self.statics, port),
+        }
+    }
+}
+
+/// Whether a backend is one of these.
+fn has_backend(backends: &Backends, backend: Backend) -> bool
+    ensures { result ≡ list_any (λ other. is_same other backend) backends.now }
+{
+    backends
+        .as_slice()
+        .iter()
+        .any(|other| is_same(*other, backend))
+}
+
+/// Whether two backends are the same.
+fn is_same(a: Backend, b: Backend) -> bool
+    ensures { result ≡ is_same a b }
+{
+    a.address == b.address && a.port == b.port
+}
+
+/// Whether one of these is in the way of a static port.
+fn has_in_way(statics: &ShortList<StaticPort>, port: StaticPort) -> bool
+    ensures { result ≡ list_any (λ other. is_in_way other port) statics.now }
+{
+    statics
+        .as_slice()
+        .iter()
+        .any(|other| is_in_way(*other, port))
+}
+
+/// Whether two static ports are of one protocol, and have one inside endpoint or one outside port.
+fn is_in_way(a: StaticPort, b: StaticPort) -> bool
+    ensures { result ≡ is_in_way a b }
+{
+    a.protocol == b.protocol
+        && (a.address == b.address && a.port == b.port || a.outside == b.outside)
+}
+
+/// What the lines of a text name, or the first line that names one too many, or one again.
+pub fn read_names(text: &[u8]) -> Result<Named, LineFault>
+    ensures names { IfOk result (λ names. names ≡ named_in (counted_lines text.now)) }
+    ensures few { IfOk result (λ names. length names.backends ≤ 64) }
+    ensures none { IfOk result (λ names. names_fault no_names (counted_lines text.now) ≡ None) }
+    ensures fault { IfErr result (λ fault.
+        names_fault no_names (counted_lines text.now) ≡ Some fault) }
+{
+    let mut names = Named::none();
+    for line in lines(text) {
+        if let Some(name) = read_name(words(line.bytes)) {
+            match names.refusal(name) {
+                None => names.add(name),
+                Some(cause) => return Err(fault_at(line.number, cause)),
+            }
+        }
+    }
+    Ok(names)
+}
+
+/// What a line names, if it is one that does.
+fn read_name(mut words: WordIter<'_>) -> Option<Name>
+    ensures { result ≡ name_of words.entry }
+{
+    let word = words.next()?;
+    if word == BoxLine::Backend.word() {
+        match read_line(words, BoxLine::Backend, false) {
+            Ok(values) => Some(Name::Backend(backend_from(values))),
+            Err(_) => None,
+        }
+    } else if word == BoxLine::Static.word() {
+        match read_line(words, BoxLine::Static, false) {
+            Ok(values) => Some(Name::Static(static_from(values))),
+            Err(_) => None,
+        }
+    } else {
+        None
+    }
+}
+
+/// The backend of these values.
+fn backend_from(values: Values) -> Backend
+    requires { IsWithin line.Backend values }
+    ensures { result ≡ backend_from values }
+{
+    Backend {
+        address: values.first as u32,
+        port: values.second as u16,
+    }
+}
+
+/// The static port of these values.
+fn static_from(values: Values) -> StaticPort
+    requires { IsWithin line.Static values }
+    ensures { result ≡ static_from values }
+{
+    StaticPort {
+        protocol: protocol_of(values.first),
+        address: values.second as u32,
+        port: values.third as u16,
+        outside: values.fourth as u16,
+    }
+}
+
+/// The number of the protocol that stands at this place: TCP is the first.
+fn protocol_of(index: u64) -> u8
+    ensures { result ≡ protocol_of index }
+{
+    if index == 0 { 6 } else { 17 }
+}

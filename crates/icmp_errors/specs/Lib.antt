@@ -1,0 +1,3 @@
+pub mod ErrorFields
+pub mod ErrorView
+pub mod ErrorRewriting

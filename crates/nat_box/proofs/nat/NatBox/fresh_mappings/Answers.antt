@@ -1,0 +1,11 @@
+use Rattle.std.proofs.Common.{◌∙◌, ap, []}
+use Rattle.nat_box.specs.Starting.{mapped_all}
+use Rattle.nat_box.specs.Boxes.{settings_of}
+use Rattle.nat_box.proofs.Starting.{start_mappings}
+use Rattle.nat_box.proofs.nat.NatBox.fresh_mappings.Goals as goal
+
+pub returns : goal.returns
+returns c =
+    c.in_ok-table.ensures
+    ∙ ap (λ ports. mapped_all (settings_of c.args.self.now) c.args.var ports []) c.in_ok-ports.ensures
+    ∙ start_mappings (settings_of c.args.self.now) c.args.var c.args.self.now.statics

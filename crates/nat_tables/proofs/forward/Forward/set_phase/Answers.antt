@@ -1,0 +1,46 @@
+use Rattle.std.proofs.Common.{◌≡◌, ◌∙◌, sym, refl, subst, Some, arith}
+use Rattle.nat_tables.specs.declared.entries.Endpoint.{Endpoint}
+use Rattle.nat_tables.specs.Forwards.{slot_of, in_phase}
+use Rattle.nat_tables.specs.Idling.{IsBusyUntil}
+use Rattle.nat_tables.specs.Rows.{present}
+use Rattle.nat_tables.proofs.TableLemmas.{put_in_phase_by, slot_found_by, same_by}
+use Rattle.nat_tables.proofs.RowLemmas.{row_inside}
+use Rattle.nat_tables.proofs.IdleLemmas.{busy_marked, not_in_phase}
+use Rattle.nat_tables.proofs.RowWords.{derived, stands_inserted, stands_lookup, absent_lookup}
+use Rattle.nat_tables.proofs.forward.Forward.set_phase.Goals as goal
+
+pub set-requires : goal.set-requires
+set-requires c =
+    let stands = c.in-Some.ensures in
+    let inside = row_inside c.self.inside.slots c.in-Some.at (stands.own, c.in-Some.slot) stands.row in
+    let long = c.self.invariant.long in omega arith
+
+pub invariant_of-self : goal.invariant_of-self
+invariant_of-self c =
+    let stands = c.in-Some.ensures in
+    let own : c.args.key.now ≡ stands.own = same_by derived (λ a b. refl) c.args.key.now stands.own stands.same in
+    let busy : IsBusyUntil c.busy_until.result (Some (c.args.key.now, c.in_phase-later.result)) =
+    c.busy_until.ensures.busy in
+    rw (c.set.ensures, c.put.ensures (stands.own, c.in-Some.slot) stands.row)
+    (busy_marked _ _ c.in-Some.at _ (Some (stands.own, c.in_phase-later.result)) c.self.invariant
+    (subst (λ (x : Endpoint). IsBusyUntil c.busy_until.result (Some (x, c.in_phase-later.result))) own busy))
+
+pub returns-in-Some : goal.returns-in-Some
+returns-in-Some c =
+    let rows = c.self.inside.slots in
+    let stands = c.in-Some.ensures in
+    let there : slot_of c.args.key.now (present rows) ≡ Some c.in-Some.slot =
+    sym (slot_found_by derived (λ a b. refl) c.args.key.now (present rows))
+    ∙ stands_lookup derived c.args.key.now rows c.in-Some.at c.in-Some.slot stands in
+    rw (c.put.ensures (stands.own, c.in-Some.slot) stands.row, c.in_phase-later.ensures, ← c.self.view_is)
+    (sym (stands_inserted derived c.args.key.now rows c.in-Some.at c.in-Some.slot
+    (in_phase c.args.phase c.in-Some.slot) stands.own stands stands.row)
+    ∙ put_in_phase_by derived (λ a b. refl) c.args.key.now c.args.phase c.in-Some.slot (present rows) there)
+
+pub returns-in_default : goal.returns-in_default
+returns-in_default c =
+    let rows = c.self.inside.slots in
+    rw (← c.self.view_is)
+    (not_in_phase c.args.key.now c.args.phase (present rows)
+    (sym (slot_found_by derived (λ a b. refl) c.args.key.now (present rows))
+    ∙ absent_lookup derived c.args.key.now rows c.in_default.ensures))
