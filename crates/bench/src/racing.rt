@@ -20,7 +20,7 @@ use std::alloc::Global;
 use std::marker::Brand;
 use std::sync::Wait;
 use std::thread::{Threads, map_vec};
-use var_locks::{Closed, OpenGate, Round, Touched, VarSeat, Vars};
+use var_locks::{Closed, OpenGate, Round, Touched, VarSeat, Vars, is_on_variable};
 
 /// Makes the next move of the seat's thread.
 #[tactic(auto, using(crate::proofs::Staying::steps_stay, crate::proofs::Staying::touches_stay))]
@@ -42,14 +42,15 @@ fn make<P: Program, J: Round, R: Wait>(
     if counts.taken > MOST_COUNT || counts.entries > MOST_COUNT || counts.outputs > MOST_COUNT {
         return Stepped::NoMemory;
     }
-    if seat.wants_variable(program) {
-        return match vars.touch(rt, alloc, program, seat, guide, &OpenGate) {
+    let wants = seat.wants(program);
+    if is_on_variable(&wants) {
+        return match vars.touch(rt, alloc, program, seat, &wants, guide, &OpenGate) {
             Touched::Did(entry) => Stepped::Did(entry),
             Touched::Blocked { thread, number } => Stepped::NotTurn { thread, number },
             Touched::NoMemory => Stepped::NoMemory,
         };
     }
-    vars.plain(alloc, program, seat, guide, 0, Some(packet))
+    vars.plain(alloc, program, seat, &wants, guide, 0, Some(packet))
 }
 
 /// Takes a packet to its end; whether it came there.

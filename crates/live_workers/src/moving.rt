@@ -1,10 +1,10 @@
 //! One move of a thread of a round.
-ghost use Rattle.std.specs.Prelude.{◌≡◌, ◌<◌, ◌^◌, ℕ, false, option_copied};
+ghost use Rattle.std.specs.Prelude.{◌≡◌, ◌<◌, ◌^◌, ℕ, true, false, option_copied};
 ghost use Rattle.input_logger.specs.Inputs.{input_at, inputs_of};
-ghost use Rattle.master_core.specs.Mastered.{moves_made, WantsVariable};
+ghost use Rattle.master_core.specs.Mastered.{moves_made};
 ghost use Rattle.var_locks.specs.Rounds.{AreVarsOf};
 ghost use Rattle.var_locks.specs.Seats.{IsSeatOf};
-ghost use Rattle.var_locks.specs.Wanting.{seat_wants};
+ghost use Rattle.var_locks.specs.Wanting.{on_variable, seat_wants};
 ghost use Rattle.live_workers.specs.Telling.{IsAtHand};
 ghost use Rattle.live_workers.specs.Moving.{ComesTo, HasInput, input_wanted, touch_shown};
 
@@ -17,7 +17,7 @@ use rand_pcg::Pcg32;
 use replay_guide::Guide;
 use std::alloc::Global;
 use std::sync::Wait;
-use var_locks::{Gate, Round, Touched, VarSeat, Vars};
+use var_locks::{Gate, Round, Touched, VarSeat, Vars, is_on_variable};
 use world_io::Clock;
 
 /// What the frames of a round say of who sends them: its epoch and its number of threads.
@@ -95,6 +95,7 @@ fn touch_next<P: Program, J: Round, C: Clock, G: Gate, R: Wait>(
     around: &Surroundings<'_, P, J, C, G>,
     seat: &mut VarSeat<P>,
     generator: &Pcg32,
+    wants: &Wants,
 ) -> Stepped
     requires of { AreVarsOf P.meaning P.row.coded P.Value.row.coded
         around.now.program.now around.now.vars.now }
@@ -102,7 +103,8 @@ fn touch_next<P: Program, J: Round, C: Clock, G: Gate, R: Wait>(
     requires seat { IsSeatOf around.now.vars.now seat.old }
     requires going { seat.old.ended ≡ false }
     requires room { moves_made seat.old.part < 2 ^ 56 }
-    requires wants { WantsVariable (P.meaning around.now.program.now) seat.old.part.hand }
+    requires wanted { wants.now ≡ seat_wants (P.meaning around.now.program.now) seat.old }
+    requires on { on_variable wants.now ≡ true }
     ensures comes { ComesTo (P.meaning around.now.program.now) J.guide
         (inputs_of around.now.inputs.now seat.old.thread) (C.may around.now.clock.now)
         seat.old generator.now seat.new generator.now result }
@@ -114,6 +116,7 @@ fn touch_next<P: Program, J: Round, C: Clock, G: Gate, R: Wait>(
             around.alloc,
             around.program,
             seat,
+            wants,
             around.guide,
             around.gate,
         ),
@@ -135,7 +138,7 @@ fn plain_next<P: Program, J: Round, C: Clock, G: Gate>(
     requires going { seat.old.ended ≡ false }
     requires room { moves_made seat.old.part < 2 ^ 56 }
     requires wanted { wants.now ≡ seat_wants (P.meaning around.now.program.now) seat.old }
-    requires own { WantsVariable (P.meaning around.now.program.now) seat.old.part.hand → ⊥ }
+    requires own { on_variable wants.now ≡ false }
     requires input { HasInput (inputs_of around.now.inputs.now seat.old.thread) seat.old.part }
     ensures comes { ComesTo (P.meaning around.now.program.now) J.guide
         (inputs_of around.now.inputs.now seat.old.thread) (C.may around.now.clock.now)
@@ -148,6 +151,7 @@ fn plain_next<P: Program, J: Round, C: Clock, G: Gate>(
         around.alloc,
         around.program,
         seat,
+        wants,
         around.guide,
         answer,
         input,
@@ -172,9 +176,9 @@ pub(crate) fn make_next<P: Program, J: Round, C: Clock, G: Gate, R: Wait>(
         (inputs_of around.now.inputs.now seat.old.thread) (C.may around.now.clock.now)
         seat.old generator.old seat.new generator.new result }
 {
-    if seat.wants_variable(around.program) {
-        return touch_next(rt, around, seat, generator);
-    }
     let wants = seat.wants(around.program);
+    if is_on_variable(&wants) {
+        return touch_next(rt, around, seat, generator, &wants);
+    }
     plain_next(around, seat, generator, &wants)
 }

@@ -11,7 +11,7 @@ use plain_text::Packet;
 use replay_guide::Guide;
 use std::alloc::Global;
 use std::sync::Wait;
-use var_locks::{OpenGate, Round, Touched, VarSeat, Vars};
+use var_locks::{OpenGate, Round, Touched, VarSeat, Vars, is_on_variable};
 
 /// No thread of a test comes to this number of inputs, entries or outputs.
 const MOST_COUNT: u64 = 1 << 40;
@@ -65,15 +65,16 @@ fn make<P: Program, J: Round, R: Wait>(
     if counts.taken > MOST_COUNT || counts.entries > MOST_COUNT || counts.outputs > MOST_COUNT {
         return Stepped::NoMemory;
     }
-    if seat.wants_variable(program) {
-        return match vars.touch(rt, alloc, program, seat, guide, &OpenGate) {
+    let wants = seat.wants(program);
+    if is_on_variable(&wants) {
+        return match vars.touch(rt, alloc, program, seat, &wants, guide, &OpenGate) {
             Touched::Did(entry) => Stepped::Did(entry),
             Touched::Blocked { thread, number } => Stepped::NotTurn { thread, number },
             Touched::NoMemory => Stepped::NoMemory,
         };
     }
     let told = time.wrapping_add(counts.taken.wrapping_mul(IDLE));
-    vars.plain(alloc, program, seat, guide, told, Some(packet))
+    vars.plain(alloc, program, seat, &wants, guide, told, Some(packet))
 }
 
 /// Takes a packet to its end, and adds the moves to what the thread did; whether it came there.

@@ -1,5 +1,5 @@
 -- What a seat's thread wants next, as far as the seat saw.
-use Rattle.std.specs.Prelude.{ℕ, ◌+◌, List, Option, Some, None, slice_index}
+use Rattle.std.specs.Prelude.{ℕ, ◌+◌, Bool, true, false, List, Option, Some, None, slice_index}
 use Rattle.plain_machine.specs.declared.local.Local.{Local}
 use Rattle.plain_machine.specs.declared.local.Move.{Move}
 use Rattle.plain_machine.specs.declared.local.Move.TheVariants as move
@@ -26,3 +26,23 @@ seat_wants_in m c seen (Some place) = seat_wants_by c seen (m.next place)
 -- what the seat's thread wants: its next input, or the program's next move with the packet in hand
 abbrev pub seat_wants : {V : Type 0} → Meaning V → Seated V → Wants
 seat_wants m x = seat_wants_in m x.part.counts x.seen x.part.hand
+
+-- whether what is wanted is a touch or a read
+abbrev pub on_variable : Wants → Bool
+on_variable (wants.Touch n v places) = true
+on_variable (wants.Read n v places) = true
+on_variable (wants.Take k) = false
+on_variable (wants.Clock n) = false
+on_variable (wants.Draw n) = false
+on_variable wants.Emit = false
+on_variable wants.End = false
+
+-- the program's next move, by what is wanted: none where that is an input
+abbrev pub next_by : Wants → Option Move
+next_by (wants.Take k) = None
+next_by (wants.Touch n v places) = Some (move.Access v)
+next_by (wants.Read n v places) = Some (move.Read v)
+next_by (wants.Clock n) = Some move.Clock
+next_by (wants.Draw n) = Some move.Draw
+next_by wants.Emit = Some move.Emit
+next_by wants.End = Some move.End

@@ -1,15 +1,15 @@
 //! A seat's own moves: those on no variable.
-ghost use Rattle.std.specs.Prelude.{◌≡◌, ℕ, ◌+◌, ◌%◌, ◌^◌, OnOk, OnErr, IsTrue, IsSome};
+ghost use Rattle.std.specs.Prelude.{◌≡◌, ℕ, ◌+◌, ◌%◌, ◌^◌, false, OnOk, OnErr, IsTrue, IsSome};
 ghost use Rattle.std.specs.Prelude.{option_copied};
 ghost use Rattle.std.specs.Prelude.{Some, None};
 ghost use Rattle.box_program.specs.Hands.{has_hand};
 ghost use Rattle.plain_machine.specs.declared.local.Move.TheVariants as move_is;
-ghost use Rattle.master_core.specs.Mastered.{WantsVariable};
 ghost use Rattle.replay_guide.specs.Orders.{weight_of};
 ghost use Rattle.var_locks.specs.Notes.{IsOwn, IsGuided, IsRecorded, own_note, mark_in};
 ghost use Rattle.var_locks.specs.Rounds.{AreVarsOf};
 ghost use Rattle.var_locks.specs.Seats.{MayMove, HasMade};
 ghost use Rattle.var_locks.specs.Plain.{Steps, IsAsked, IsFree};
+ghost use Rattle.var_locks.specs.Wanting.{on_variable, seat_wants};
 
 use crate::lines::thread_word;
 use crate::seats::VarSeat;
@@ -18,8 +18,8 @@ use crate::vars::Vars;
 use crate::view::Round;
 use access_log::{StampedEntry, What};
 use box_program::Program;
-use master_core::{Stepped, ThreadPart, Trace, moves};
-use plain_machine::{Local, Move};
+use master_core::{Stepped, ThreadPart, Trace, Wants, moves};
+use plain_machine::Local;
 use plain_text::{NoMemory, Packet};
 use replay_guide::Guide;
 use std::alloc::Global;
@@ -204,11 +204,13 @@ impl<P: Program, J: Round> Vars<P, J> {
     }
 
     /// Makes the seat's next move, which is on no variable.
+    #[tactic(auto, using(crate::proofs::Wanting::next_is, crate::proofs::Wanting::next_wanted))]
     pub(crate) fn make_own(
         &self,
         alloc: Global,
         program: &P,
         seat: &mut VarSeat<P>,
+        wants: &Wants,
         guide: &Guide,
         answer: u64,
         input: Option<&Packet>,
@@ -216,7 +218,8 @@ impl<P: Program, J: Round> Vars<P, J> {
         requires of { AreVarsOf P.meaning P.row.coded P.Value.row.coded program.now self.now }
         requires guide { guide.now ≡ J.guide }
         requires seat { MayMove self.now seat.old }
-        requires own { WantsVariable (P.meaning program.now) seat.old.part.hand → ⊥ }
+        requires wanted { wants.now ≡ seat_wants (P.meaning program.now) seat.old }
+        requires own { on_variable wants.now ≡ false }
         requires input { IsTrue (has_hand seat.old.part.hand) → IsSome input }
         ensures steps { Steps (P.meaning program.now) J.guide seat.old answer
             (option_copied input.entry) seat.new result }
@@ -228,18 +231,18 @@ impl<P: Program, J: Round> Vars<P, J> {
             return self.take(program, seat, packet);
         };
         let number = seat.part.counts.entries + 1;
-        match program.next(&place) {
-            Move::Clock => {
+        match *wants {
+            Wants::Clock(_) => {
                 let told = told_to(guide, seat.thread, number, answer);
                 self.hear(program, seat, place, What::Clock(told), told, input)
             }
-            Move::Draw => {
+            Wants::Draw(_) => {
                 let told = told_to(guide, seat.thread, number, answer);
                 self.hear(program, seat, place, What::Draw(told), told, input)
             }
-            Move::Emit => self.emit(alloc, program, seat, place, input.unwrap()),
-            Move::End => self.finish(program, seat, place, input),
-            Move::Access(_) | Move::Read(_) => unreachable!(),
+            Wants::Emit => self.emit(alloc, program, seat, place, input.unwrap()),
+            Wants::End => self.finish(program, seat, place, input),
+            Wants::Take(_) | Wants::Touch { .. } | Wants::Read { .. } => unreachable!(),
         }
     }
 }

@@ -14,6 +14,7 @@ mod touching;
 mod vars;
 mod view;
 
+pub use progress::is_on_variable;
 pub use seats::VarSeat;
 pub use touching::{Gate, OpenGate, Touched};
 pub use vars::{Closed, Vars};

@@ -1,7 +1,6 @@
 //! What is seen of a seat between its moves.
-ghost use Rattle.std.specs.Prelude.{◌≡◌, ℕ, ◌↔◌, IsTrue, slice_index};
-ghost use Rattle.master_core.specs.Mastered.{WantsVariable, IsOnVariable};
-ghost use Rattle.var_locks.specs.Wanting.{seat_wants};
+ghost use Rattle.std.specs.Prelude.{◌≡◌, slice_index};
+ghost use Rattle.var_locks.specs.Wanting.{on_variable, seat_wants};
 
 use crate::seats::VarSeat;
 use box_program::Program;
@@ -16,18 +15,8 @@ impl<P: Program> VarSeat<P> {
         self.part.counts
     }
 
-    /// Whether its thread touches or reads a variable next.
-    pub fn wants_variable(&self, program: &P) -> bool
-        ensures { IsTrue result ↔ WantsVariable (P.meaning program.now) self.now.part.hand }
-    {
-        match self.part.hand {
-            Some(place) => is_on_variable(program.next(&place)),
-            None => false,
-        }
-    }
-
-    /// What its thread does next. Of a touch or a read, `places` is how often the seat saw the variable touched: since
-    /// then others may have touched it.
+    /// What its thread does next: the program is asked once, and `Vars::touch` and `Vars::plain` take the answer. Of a
+    /// touch or a read, `places` is how often the seat saw the variable touched: since then others may have touched it.
     pub fn wants(&self, program: &P) -> Wants
         ensures { result ≡ seat_wants (P.meaning program.now) self.now }
     {
@@ -64,9 +53,9 @@ fn seen_of(seen: &[u64], var: u32) -> u64
     }
 }
 
-/// Whether the move is a touch or a read.
-fn is_on_variable(next: Move) -> bool
-    ensures { IsTrue result ↔ ((v : ℕ) × IsOnVariable next v) }
+/// Whether what a thread wants is a touch or a read: `Vars::touch` makes these, and `Vars::plain` every other move.
+pub fn is_on_variable(wants: &Wants) -> bool
+    ensures { result ≡ on_variable wants.now }
 {
-    matches!(next, Move::Access(_) | Move::Read(_))
+    matches!(*wants, Wants::Touch { .. } | Wants::Read { .. })
 }

@@ -1,11 +1,11 @@
 //! The call by which a thread touches or reads the variable that it wants.
-ghost use Rattle.std.specs.Prelude.{◌≡◌, ℕ, ◌<◌, ◌^◌, false, slice_set, vec_len, vec_capacity};
+ghost use Rattle.std.specs.Prelude.{◌≡◌, ◌<◌, ◌^◌, true, false, Some, slice_set, vec_len, vec_capacity};
 ghost use Rattle.std.specs.Prelude.{IfSome, IfNone};
-ghost use Rattle.plain_machine.specs.declared.local.Move.TheVariants as move_is;
-ghost use Rattle.master_core.specs.Mastered.{moves_made, WantsVariable};
+ghost use Rattle.master_core.specs.Mastered.{moves_made};
 ghost use Rattle.var_locks.specs.Rounds.{AreVarsOf};
 ghost use Rattle.var_locks.specs.Seats.{IsSeatOf};
 ghost use Rattle.var_locks.specs.TouchedParts.{Touches, seen_by, marked_by, wanted_move};
+ghost use Rattle.var_locks.specs.Wanting.{next_by, on_variable, seat_wants};
 
 use crate::keeping::mark_of_entry;
 use crate::seats::VarSeat;
@@ -14,7 +14,8 @@ use crate::vars::Vars;
 use crate::view::Round;
 use access_log::What;
 use box_program::Program;
-use plain_machine::{Local, Move};
+use master_core::Wants;
+use plain_machine::Local;
 use replay_guide::Guide;
 use std::alloc::Global;
 use std::sync::Wait;
@@ -53,44 +54,42 @@ fn mark(marks: &mut Vec<Option<u64>>, touched: &Touched)
     }
 }
 
-/// The touch or the read that the program wants of this thread at this place.
-fn wanted<P: Program>(program: &P, thread: u32, place: &Local) -> Option<Access>
-    ensures some { IfSome result (λ a.
-        (P.meaning program.now).next place.now ≡ wanted_move a.var a.read) }
+/// The touch or the read that this thread wants, which is at this place.
+fn access_of(thread: u32, place: Local, wants: &Wants) -> Option<Access>
+    ensures some { IfSome result (λ a. next_by wants.now ≡ Some (wanted_move a.var a.read)) }
     ensures access { IfSome result (λ a.
-        a ≡ record { thread = thread; var = a.var; read = a.read; place = place.now }) }
-    ensures no_touch { IfNone result ((v : ℕ) →
-        (P.meaning program.now).next place.now ≡ move_is.Access v → ⊥) }
-    ensures no_read { IfNone result ((v : ℕ) →
-        (P.meaning program.now).next place.now ≡ move_is.Read v → ⊥) }
+        a ≡ record { thread = thread; var = a.var; read = a.read; place = place }) }
+    ensures neither { IfNone result (on_variable wants.now ≡ false) }
 {
-    let (var, read) = match program.next(place) {
-        Move::Access(var) => (var, false),
-        Move::Read(var) => (var, true),
-        Move::Clock | Move::Draw | Move::Emit | Move::End => return None,
+    let (var, read) = match *wants {
+        Wants::Touch { var, .. } => (var, false),
+        Wants::Read { var, .. } => (var, true),
+        Wants::Take(_) | Wants::Clock(_) | Wants::Draw(_) | Wants::Emit | Wants::End => return None,
     };
     Some(Access {
         thread,
         var,
         read,
-        place: *place,
+        place,
     })
 }
 
 impl<P: Program, J: Round> Vars<P, J> {
-    /// Makes the touch or the read that the seat's thread wants. It waits while another seat has the variable, or the
-    /// guide says to wait.
+    /// Makes the touch or the read that the seat's thread wants, as `VarSeat::wants` says. It waits while another seat
+    /// has the variable, or the guide says to wait.
     ///
     /// `Did` has the entry: of a touch its place is above all that this seat had seen of the variable, of a read no
     /// lower. `Blocked` names the entry for which the guide says to wait at what was found of the variable, and comes
     /// only where its thread had ended the round without it. After `Blocked` and `NoMemory` the seat made no move and
     /// has no variable.
+    #[tactic(auto, using(crate::proofs::Wanting::placed, crate::proofs::Wanting::next_is, crate::proofs::Wanting::low))]
     pub fn touch<R: Wait, G: Gate>(
         &self,
         rt: &R,
         alloc: Global,
         program: &P,
         seat: &mut VarSeat<P>,
+        wants: &Wants,
         guide: &Guide,
         gate: &G,
     ) -> Touched
@@ -99,14 +98,15 @@ impl<P: Program, J: Round> Vars<P, J> {
         requires seat { IsSeatOf self.now seat.old }
         requires going { seat.old.ended ≡ false }
         requires room { moves_made seat.old.part < 2 ^ 56 }
-        requires wants { WantsVariable (P.meaning program.now) seat.old.part.hand }
+        requires wanted { wants.now ≡ seat_wants (P.meaning program.now) seat.old }
+        requires on { on_variable wants.now ≡ true }
         ensures touches { Touches (P.meaning program.now) J.guide seat.old seat.new result }
     {
         let Ok(()) = seat.marks.reserve(1) else {
             return Touched::NoMemory;
         };
         let place = seat.part.hand.unwrap();
-        let Some(access) = wanted(program, seat.thread, &place) else {
+        let Some(access) = access_of(seat.thread, place, wants) else {
             unreachable!()
         };
         let setting = Setting {
