@@ -4,18 +4,24 @@ ghost use Rattle.packet_headers.specs.Fields.{AreBytes, word_at, long_at, put_wo
 /// Where the fields of an Ethernet frame that carries IPv4 stand (RFC 791, section 3.1).
 pub(crate) const ETHER_TYPE: usize = 12;
 
+/// Where the IPv4 header of an Ethernet frame without a tag begins (RFC 894).
 pub const IP_HEADER: usize = 14;
 
+/// Where its total length stands, a word (RFC 791, section 3.1).
 pub const TOTAL_LENGTH: usize = 16;
 
 pub(crate) const FLAGS_AND_OFFSET: usize = 20;
 
+/// Where its protocol stands, a byte.
 pub const PROTOCOL: usize = 23;
 
+/// Where its header checksum stands, a word.
 pub const HEADER_CHECKSUM: usize = 24;
 
+/// Where its source address stands, four bytes.
 pub const SOURCE_ADDRESS: usize = 26;
 
+/// Where its destination address stands, four bytes.
 pub const DESTINATION_ADDRESS: usize = 30;
 
 pub(crate) const IP_OPTIONS: usize = 34;

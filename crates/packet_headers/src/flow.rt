@@ -1,9 +1,10 @@
 ghost use Rattle.std.specs.Prelude.{◌≡◌};
 ghost use Rattle.packet_headers.specs.Steering.{steering_sum};
 
-/// The numbers of the protocols that have ports (RFC 790).
+/// The protocol number of TCP (RFC 790).
 pub const TCP: u8 = 6;
 
+/// The protocol number of UDP (RFC 790).
 pub const UDP: u8 = 17;
 
 /// A frame's TCP or UDP flow: its protocol, its two endpoints, and where its transport header begins.
