@@ -14,8 +14,6 @@ use Rattle.run_writes.specs.declared.error.RunError.TheVariants as of_run
 use Rattle.plain_machine.specs.declared.plain_move.PlayFault.{PlayFault}
 use Rattle.schedule_check.specs.declared.checking.Refutation.{Refutation}
 use Rattle.hand_faults.specs.declared.fault.HandCause.TheVariants as hand_cause
-use Rattle.hand_command.specs.declared.error.HandError.{HandError}
-use Rattle.hand_command.specs.declared.error.HandError.TheVariants as of_hand
 use Rattle.schedule_commands.specs.declared.error.ScheduleError.{ScheduleError}
 use Rattle.schedule_commands.specs.declared.error.ScheduleError.TheVariants as of_schedule
 use Rattle.job_commands.specs.declared.status.InputFault.{InputFault}
@@ -172,14 +170,6 @@ of_run_error of_run.NoMemory = NoMemory
 abbrev pub run_outcome : {A : Type 0} → Result A RunError → Status
 run_outcome (Ok done) = Done
 run_outcome (Err error) = of_run_error error
-
--- what `hand` comes to
-abbrev pub hand_outcome : {A : Type 0} → Result A HandError → Status
-hand_outcome (Ok done) = Done
-hand_outcome (Err (of_hand.Limit limit)) = TooLarge limit
-hand_outcome (Err of_hand.WriteFault) = WriteFault
-hand_outcome (Err of_hand.NoMemory) = NoMemory
-hand_outcome (Err (of_hand.Unready unready)) = Unready unready
 
 -- what `play` comes to
 abbrev pub play_outcome : {A : Type 0} → Result A (ScheduleError PlayFault) → Status

@@ -1,13 +1,12 @@
 ghost use Rattle.std.specs.Prelude.{◌≡◌};
 ghost use Rattle.job_commands.specs.Status.{exit_code_of, of_box_error, of_capture_error};
-ghost use Rattle.job_commands.specs.Status.{hand_outcome as hand_outcome_of, of_image_error};
+ghost use Rattle.job_commands.specs.Status.{of_image_error};
 ghost use Rattle.job_commands.specs.Status.{of_plan_error, of_released_error, of_schedule_error};
 ghost use Rattle.job_commands.specs.Status.{of_script_error, of_second_box_error};
 ghost use Rattle.job_commands.specs.Status.{check_outcome as check_outcome_of, outcome_of};
 ghost use Rattle.job_commands.specs.Status.{play_outcome as play_outcome_of};
 ghost use Rattle.job_commands.specs.Status.{run_outcome as run_outcome_of};
 
-use hand_command::HandError;
 use hand_faults::{HandCause, HandFault};
 use handover_world::Unready;
 use input_files::InputError;
@@ -226,19 +225,6 @@ pub fn run_outcome(run: Result<(), RunError>) -> Status
         Err(RunError::Limit(limit)) => Status::TooLarge(limit),
         Err(RunError::WriteFault) => Status::WriteFault,
         Err(RunError::NoMemory) => Status::NoMemory,
-    }
-}
-
-/// What `hand` comes to.
-pub fn hand_outcome(hand: Result<(), HandError>) -> Status
-    ensures { result ≡ hand_outcome_of hand }
-{
-    match hand {
-        Ok(()) => Status::Done,
-        Err(HandError::Limit(limit)) => Status::TooLarge(limit),
-        Err(HandError::WriteFault) => Status::WriteFault,
-        Err(HandError::NoMemory) => Status::NoMemory,
-        Err(HandError::Unready(unready)) => Status::Unready(unready),
     }
 }
 

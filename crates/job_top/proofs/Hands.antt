@@ -22,7 +22,7 @@ use Rattle.job_commands.specs.declared.status.Status.{Status}
 use Rattle.job_commands.specs.declared.status.Status.TheVariants as status
 use Rattle.job_commands.specs.Judging.{Judges}
 use Rattle.job_commands.specs.Run.{StopsRun, setting_for}
-use Rattle.job_commands.specs.Status.{AtInputs, AtOutputs, ComesAt, Completes, EndsReading, IsRefusal, hand_outcome}
+use Rattle.job_commands.specs.Status.{AtInputs, AtOutputs, ComesAt, Completes, EndsReading, IsRefusal}
 use Rattle.job_commands.specs.Status.{stage_of, stage_of_limit}
 use Rattle.job_commands.specs.HandWords.{HandNames}
 use Rattle.job_commands.specs.Words.{run_of_hand}
@@ -30,7 +30,7 @@ use Rattle.job_commands.proofs.OneVerdict.{inputs_one, run_completes}
 use Rattle.job_commands.proofs.Outcomes.{begun_writes_since, files_since, not_of_run}
 use Rattle.job_commands.proofs.RunLimits.{stops_are}
 use Rattle.job_top.specs.Hand.{AcceptsHandInputs, AreAcceptedForHand, HandsInOrder, HandsToLimit, HandsUnready}
-use Rattle.job_top.specs.Hand.{HandsWhole, JudgesHand, KeepsHandNames, StopsHand, hand_outputs}
+use Rattle.job_top.specs.Hand.{HandsWhole, JudgesHand, KeepsHandNames, StopsHand, hand_outcome, hand_outputs}
 use Rattle.job_top.proofs.SparedNames.{spare_hand}
 
 -- The files are as they were when the inputs had been read.

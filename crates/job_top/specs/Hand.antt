@@ -1,6 +1,6 @@
 -- What the command `hand` does: a run of the script that the inputs ask for, behind which the system is handed over,
 -- where it is ready.
-use Rattle.std.specs.Prelude.{◌⊎◌, ℕ, List, ◌++◌, Err}
+use Rattle.std.specs.Prelude.{◌⊎◌, ℕ, List, ◌++◌, Result, Ok, Err}
 use Rattle.plain_text.specs.declared.limit.Limit.{Limit}
 use Rattle.box_conf.specs.Kinds.{meaning_of}
 use Rattle.world_io.specs.World.{Shown}
@@ -9,6 +9,8 @@ use Rattle.recovery_world.specs.Files.{Performs}
 use Rattle.handover_world.specs.declared.unready.Unready.{Unready}
 use Rattle.handover_world.specs.Ready.{IsReadiness}
 use Rattle.run_writes.specs.Run.{HasStopped, KeepsOthers, KeepsShown, OutputNames}
+use Rattle.hand_command.specs.declared.error.HandError.{HandError}
+use Rattle.hand_command.specs.declared.error.HandError.TheVariants as of_hand
 use Rattle.hand_command.specs.Hand.{HandsOver, HasBegunHand, HasHanded, IsNotReady, resting}
 use Rattle.input_files.specs.Judging.{ScriptTooLarge}
 use Rattle.job_commands.specs.declared.inputs.Inputs.{Inputs}
@@ -29,6 +31,13 @@ abbrev pub hand_outputs : HandNames → OutputNames
 hand_outputs names = outputs_of (run_of_hand names)
 
 -- What a hand-over comes to
+
+abbrev pub hand_outcome : {A : Type 0} → Result A HandError → Status
+hand_outcome (Ok done) = status.Done
+hand_outcome (Err (of_hand.Limit limit)) = status.TooLarge limit
+hand_outcome (Err of_hand.WriteFault) = status.WriteFault
+hand_outcome (Err of_hand.NoMemory) = status.NoMemory
+hand_outcome (Err (of_hand.Unready unready)) = status.Unready unready
 
 -- the same inputs, with the four events behind them that bring a system to rest
 abbrev pub with_rest : Inputs → Inputs

@@ -13,15 +13,28 @@ ghost use Rattle.job_commands.specs.Status.{stage_of_limit};
 ghost use Rattle.job_commands.specs.HandWords.{hand_names_of};
 ghost use Rattle.job_commands.specs.Words.{hand_inputs};
 ghost use Rattle.job_top.specs.Hand.{HandsInOrder, HandsToLimit, HandsUnready, HandsWhole};
-ghost use Rattle.job_top.specs.Hand.{JudgesHand, hand_outputs};
+ghost use Rattle.job_top.specs.Hand.{JudgesHand, hand_outputs, hand_outcome as hand_outcome_of};
 ghost use Rattle.job_top.specs.Headline.{KeepsHandPromise};
 
 use box_conf::BoxKind;
 use hand_command::{HandError, HandFiles, run_hand};
-use job_commands::{HandWords, Inputs, RunWords, Status, hand_outcome, read_inputs};
+use job_commands::{HandWords, Inputs, RunWords, Status, read_inputs};
 use run_writes::ScriptRun;
 use std::alloc::Global;
 use world_io::World;
+
+/// What `hand` comes to.
+fn hand_outcome(hand: Result<(), HandError>) -> Status
+    ensures { result ≡ hand_outcome_of hand }
+{
+    match hand {
+        Ok(()) => Status::Done,
+        Err(HandError::Limit(limit)) => Status::TooLarge(limit),
+        Err(HandError::WriteFault) => Status::WriteFault,
+        Err(HandError::NoMemory) => Status::NoMemory,
+        Err(HandError::Unready(unready)) => Status::Unready(unready),
+    }
+}
 
 /// Runs the box on the inputs, by the events of the script, and hands the system over.
 fn hand_box<W: World>(
