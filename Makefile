@@ -82,11 +82,13 @@ soak: build/ftmb
 
 # Runs the program so that it ends with each of its statuses, and compares what it tells. Runs it on captures in all four forms and on
 # pcapng captures, and has tcpdump and Wireshark's tools read what was released; and has tshark verify the checksums of generated packets,
-# and of those that four racing threads sent through the NAT. Runs the NAT on 32,700 short connections. Chromium draws the pictures, where it is installed.
+# and of those that four racing threads sent through the NAT. Runs the NAT on 32,700 short connections, and has it
+# pass on what path MTU discovery needs. Chromium draws the pictures, where it is installed.
 interop: build/ftmb
 	scripts/statuses build/ftmb build/statuses
 	scripts/interop build/ftmb build/interop
 	scripts/connections build/ftmb build/connections
+	scripts/path_mtu build/ftmb build/path_mtu
 	scripts/browser build/ftmb build/browser
 
 # The manual page, README and the help, beside the tables of the code.
