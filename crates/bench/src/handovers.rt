@@ -65,12 +65,7 @@ fn go_on_often(alloc: Global, text: &Bytes, count: u64, times: u64) -> anyhow::R
     for _ in 0..times {
         let packets = touching_packets(alloc, count)?;
         let image = read_image(alloc, text.as_slice()).map_err(|fault| anyhow!("{fault:?}"))?;
-<<<<<<< HEAD
-        let resumed =
-            System::resume(alloc, TouchBox::new(), 1, 0, Unit::Micro, packets, &image);
-=======
         let resumed = System::resume(alloc, TouchBox::new(), 1, 0, Unit::Micro, packets, &image);
->>>>>>> origin/hand
         match resumed {
             Ok(system) => system.discard(),
             Err(fault) => return Err(anyhow!("{fault:?}")),

@@ -1,13 +1,8 @@
 //! The benchmark. The first word says which work, and the other words what it is done with:
 //!
 //! - `frames COUNT TIMES`: COUNT frames of log entries, each read TIMES times
-<<<<<<< HEAD
-//! - `handovers COUNT WRITES RESUMES`: the image of a system that settled COUNT packets of 63 moves, written WRITES times
-//!   as a text, from which RESUMES systems go on
-=======
 //! - `handovers COUNT WRITES RESUMES`: the image of a system that settled COUNT packets of 63 moves, written WRITES
 //!   times as a text, from which RESUMES systems go on
->>>>>>> origin/hand
 //! - `headers CHECKSUMS REWRITINGS`: the checksums of CHECKSUMS payloads, and REWRITINGS rewritings of a frame
 //! - `held COUNT`: COUNT log entries of each of two threads, into a held set
 //! - `locks step|locks THREADS own|one COUNT`: touches by a master alone or by threads that race, on variables of their

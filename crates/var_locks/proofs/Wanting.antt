@@ -17,11 +17,15 @@ set_past [] i a above = refl
 set_past (x ∷ xs) zero a above = absurd (omega (arith, above))
 set_past (x ∷ xs) (suc i) a above = ap (λ (l : List ℕ). x ∷ l) (set_past xs i a (omega (arith, above)))
 
+-- what the seat's thread wants, by what it has in hand
+wants_with : {V : Type 0} (m : Meaning V) (x : Seated V) (w : Wants) (hand : Option Local) → x.part.hand ≡ hand
+    → w ≡ seat_wants m x → w ≡ seat_wants_in m x.part.counts x.seen hand
+wants_with m x w hand at is = is ∙ ap (λ (o : Option Local). seat_wants_in m x.part.counts x.seen o) at
+
 -- the program's next move with the packet in hand is that which the seat's thread wants
 pub next_wanted : {V : Type 0} (m : Meaning V) (x : Seated V) (place : Local) (w : Wants) → x.part.hand ≡ Some place
     → w ≡ seat_wants m x → next_by w ≡ Some (m.next place)
-next_wanted m x place w hand is =
-    ap next_by (is ∙ ap (λ (o : Option Local). seat_wants_in m x.part.counts x.seen o) hand) ∙ go (m.next place)
+next_wanted m x place w hand is = ap next_by (wants_with m x w (Some place) hand is) ∙ go (m.next place)
   where
     go : (next : Move) → next_by (seat_wants_by x.part.counts x.seen next) ≡ Some next
     go (move.Access v) = refl
@@ -44,9 +48,7 @@ placed m x w is on = go x.part.hand refl
   where
     go : (o : Option Local) → x.part.hand ≡ o → IsSome o
     go None none =
-        let no : false ≡ true =
-        sym (ap on_variable (is ∙ ap (λ (o : Option Local). seat_wants_in m x.part.counts x.seen o) none)) ∙ on in
-        absurd (cc)
+        let other : on_variable w ≡ false = ap on_variable (wants_with m x w None none is) in absurd (cc)
     go (Some place) some = refl
 
 -- a touch or a read that is next is of one of the program's variables

@@ -1,6 +1,6 @@
 //! The call by which a thread touches or reads the variable that it wants.
-ghost use Rattle.std.specs.Prelude.{◌≡◌, ◌<◌, ◌^◌, true, false, Some, slice_set, vec_len, vec_capacity};
-ghost use Rattle.std.specs.Prelude.{IfSome, IfNone};
+ghost use Rattle.std.specs.Prelude.{◌≡◌, ◌<◌, ◌^◌, true, false, Some, slice_set, vec_len};
+ghost use Rattle.std.specs.Prelude.{vec_capacity, IfSome, IfNone};
 ghost use Rattle.master_core.specs.Mastered.{moves_made};
 ghost use Rattle.var_locks.specs.Rounds.{AreVarsOf};
 ghost use Rattle.var_locks.specs.Seats.{IsSeatOf};
