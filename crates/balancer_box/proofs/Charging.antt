@@ -1,7 +1,7 @@
 -- The load of each backend is its charge after each move of each run.
 use Rattle.std.proofs.Common.{◌≡◌, ℕ, ◌+◌, ◌-◌, ◌%◌, ◌^◌, ◌<◌, Bool, true, false, List, [], ◌∷◌, length, refl, sym, ap}
 use Rattle.std.proofs.Common.{◌∙◌, subst, ◌⊎◌, inl, inr, arith, Option, Some, None}
-use Rattle.std.specs.Prelude.{nat_eq, cond, ◌==◌, ◌&&◌, not, if◌then◌else◌, ◌++◌, slice_index, Result, Ok, Err}
+use Rattle.std.specs.Prelude.{nat_eq, cond, ◌==◌, ◌&&◌, if◌then◌else◌, ◌++◌, slice_index, Result, Ok, Err}
 use Rattle.std.proofs.lemmas.Bool.{eqb-true}
 use Rattle.std.proofs.lemmas.List.{get_or-replicate}
 use Rattle.plain_text.specs.declared.packet.Packet.{Packet}

@@ -1,7 +1,7 @@
 ghost use Rattle.std.specs.Prelude.{◌≡◌, IfOk, OnErr, Some};
 ghost use Rattle.balancer_box.specs.Connections.{has_ended, phase_finished};
-ghost use Rattle.balancer_box.specs.Balancer.{heard, phase_then, ends, after_idle, opens, gives_way};
-ghost use Rattle.balancer_box.specs.Balancer.{new_slot, gives_up, finds, connects, checks};
+ghost use Rattle.balancer_box.specs.Balancer.{heard, phase_then, ends, after_idle, opens, finds};
+ghost use Rattle.balancer_box.specs.Balancer.{gives_way, new_slot, gives_up, connects, checks};
 
 use crate::{Class, Connections, Goes, Noted, Place, Tells};
 use nat_tables::{Phase, Slot};

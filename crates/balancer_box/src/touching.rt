@@ -1,7 +1,7 @@
 ghost use Rattle.std.specs.Prelude.{◌≡◌, ◌≤◌, ◌<◌, ◌^◌, ℕ, IfOk, OnErr, length, Option, None};
 ghost use Rattle.balancer_box.specs.Balancer.{goes, dropped, begins, goes_to, after_find};
-ghost use Rattle.balancer_box.specs.Balancer.{after_bind, after_check, touched, told, no_connection};
-ghost use Rattle.balancer_box.specs.Balancer.{finds, connects, checks};
+ghost use Rattle.balancer_box.specs.Balancer.{after_bind, after_check, touched, told};
+ghost use Rattle.balancer_box.specs.Balancer.{no_connection, finds, connects, checks};
 ghost use Rattle.balancer_box.specs.declared.value.BalancerValue.TheVariants.{Dropped, Loaded};
 ghost use Rattle.balancer_box.specs.declared.value.BalancerValue.TheVariants.{Connected};
 

@@ -126,10 +126,7 @@ busy_pushed times rows at time key slot busy room last later = record {
 pub busy_none : AreBusyUntil [] []
 busy_none = record { long = omega arith; each = λ at less. absurd (omega arith) }
 
--- A mapping that is kept is never idle, and another one is not before its time
-
-pub kept_until : (time : ℕ) (e : Endpoint × Slot) → is_kept e.1.phase ≡ true → IsBusyUntil time (Some e)
-kept_until time e kept = λ other. absurd (cc)
+-- A mapping that is not kept and not idle is before its time
 
 pub idle_by : (now : ℕ) (e : Endpoint × Slot) → is_kept e.1.phase ≡ false → is_idle now e ≡ false
     → now < e.1.last + timer e.0.protocol e.1.phase

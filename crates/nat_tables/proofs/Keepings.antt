@@ -1,17 +1,15 @@
 -- A mapping that is kept for good stays in its table, whatever is done there.
-use Rattle.std.proofs.Common.{◌≡◌, ℕ, Bool, true, false, [], ◌∷◌, ◌++◌, refl, sym, ap, ◌∙◌, subst, Option, Some, None}
+use Rattle.std.proofs.Common.{◌≡◌, ℕ, Bool, true, false, [], ◌∷◌, ◌++◌, refl, sym, ap, ◌∙◌, Option, Some, None}
 use Rattle.std.specs.Prelude.{if◌then◌else◌}
 use Rattle.nat_tables.specs.declared.entries.Endpoint.{Endpoint}
 use Rattle.nat_tables.specs.declared.slot.Slot.{Slot}
-use Rattle.nat_tables.specs.declared.phase.Phase.{Phase}
 use Rattle.nat_tables.specs.declared.phase.Phase.TheVariants.{Plain, Kept}
 use Rattle.nat_tables.specs.declared.phase.Segment.{Segment}
 use Rattle.nat_tables.specs.declared.phase.Segment.TheVariants.{Silent, Opens, Carries, Closes}
 use Rattle.nat_tables.specs.Phases.{phase_after}
 use Rattle.nat_tables.specs.Keys.{same_endpoint}
-use Rattle.nat_tables.specs.Forwards.{Forwards, is_idle, slot_of, refresh, without, first_idle, without_idle, found}
+use Rattle.nat_tables.specs.Forwards.{Forwards, is_idle, slot_of, refresh, without, without_idle, found}
 use Rattle.nat_tables.specs.Forwards.{refreshed, marked, mark, bound, HasKept}
-use Rattle.nat_tables.proofs.Counting.{same_is}
 
 kept_after : (seconds : ℕ) (segment : Segment) → phase_after seconds segment Kept ≡ Kept
 kept_after seconds Silent = refl

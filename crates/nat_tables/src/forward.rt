@@ -1,8 +1,7 @@
 ghost use Rattle.std.specs.Prelude.{◌≡◌, [], ◌∷◌, ◌++◌, Some, None, IfOk, OnOk, OnErr, MatchOption};
 ghost use Rattle.std.specs.Prelude.{ℕ, ◌+◌, ◌^◌, ◌<◌, ◌≤◌, false, length};
-ghost use Rattle.nat_tables.specs.Phases.{timer};
 ghost use Rattle.nat_tables.specs.Forwards.{slot_of, find, idle_removed, find_or_bind, refresh};
-ghost use Rattle.nat_tables.specs.Forwards.{without, lives, mapping_at, first_idle, is_idle, mark, keep};
+ghost use Rattle.nat_tables.specs.Forwards.{without, lives, mapping_at, first_idle, mark, keep};
 ghost use Rattle.nat_tables.specs.Forwards.{with_phase, idle_taken};
 ghost use Rattle.nat_tables.specs.Rows.{present, row_at};
 ghost use Rattle.nat_tables.specs.Idling.{AreBusyUntil, IsFirstIdle, NoneIsIdle, row_is_idle};

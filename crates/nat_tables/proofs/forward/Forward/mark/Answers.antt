@@ -1,10 +1,8 @@
-use Rattle.std.proofs.Common.{◌≡◌, ◌<◌, ◌∙◌, sym, refl, ap, subst, length, Some, arith}
+use Rattle.std.proofs.Common.{◌≡◌, ◌∙◌, sym, refl, subst, Some, arith}
 use Rattle.nat_tables.specs.declared.entries.Endpoint.{Endpoint}
-use Rattle.nat_tables.specs.Phases.{timer}
 use Rattle.nat_tables.specs.Forwards.{slot_of, marked}
 use Rattle.nat_tables.specs.Idling.{IsBusyUntil}
 use Rattle.nat_tables.specs.Rows.{present}
-use Rattle.nat_tables.proofs.Counting.{same_is}
 use Rattle.nat_tables.proofs.TableLemmas.{noted_by, slot_found_by, same_by}
 use Rattle.nat_tables.proofs.RowLemmas.{row_inside}
 use Rattle.nat_tables.proofs.IdleLemmas.{busy_marked, unmarked}
