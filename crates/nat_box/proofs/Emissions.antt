@@ -794,7 +794,8 @@ seen_translated s r bytes n flow (OfFlow own) seen class source dest tp m l u =
     translated s r bytes own n n.class class (source ∙ ap source_of same)
     (dest ∙ ap (λ (f : Flow). f.dest_port) same) tp m l
 seen_translated s r bytes n flow (OfError error) seen class source dest tp m l u =
-    let same : flow ≡ flow_of_error error = sym (same_flow (Ok (flow_of_error error)) (flow_of_error error) flow refl seen) in
+    let same : flow ≡ flow_of_error error =
+    sym (same_flow (Ok (flow_of_error error)) (flow_of_error error) flow refl seen) in
     error_translated s r bytes error n n.class class (source ∙ ap source_of same)
     (dest ∙ ap (λ (f : Flow). f.dest_port) same) tp l u
 seen_translated s r bytes n flow (OfNeither answer) seen class source dest tp m l u = absurd (cc)
