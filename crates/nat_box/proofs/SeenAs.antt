@@ -1,5 +1,5 @@
 -- What a packet is seen as.
-use Rattle.std.proofs.Common.{◌≡◌, ℕ, ◌+◌, ◌^◌, ◌<◌, Bool, true, false, List, refl, sym, ap, ◌∙◌, subst, Option, Some}
+use Rattle.std.proofs.Common.{◌≡◌, ℕ, ◌+◌, Bool, true, false, List, refl, sym, ap, ◌∙◌, subst, Option, Some}
 use Rattle.std.proofs.Common.{None}
 use Rattle.std.specs.Prelude.{if◌then◌else◌, ◌==◌, Result, Ok, Err, ◌&&◌}
 use Rattle.plain_text.specs.declared.packet.Packet.{Packet}
@@ -15,8 +15,7 @@ use Rattle.icmp_errors.specs.ErrorView.{error_of, viewed_error}
 use Rattle.flow_boxes.proofs.Fitting.{IsWhole, whole, word_fits, long_fits}
 use Rattle.nat_box.specs.declared.place.Class.{Class}
 use Rattle.nat_box.specs.declared.place.Class.TheVariants.{Outbound, Hairpin, Inbound, OutboundError}
-use Rattle.nat_box.specs.declared.seeing.Seen.{Seen}
-use Rattle.nat_box.specs.declared.seeing.Seen.TheVariants.{OfFlow, OfError, OfNeither}
+use Rattle.nat_box.specs.declared.seeing.Seen.TheVariants.{OfFlow}
 use Rattle.nat_box.specs.Nat.{Settings, is_inside, class_of_flow, class_of_error, flow_of_error, error_in, error_or}
 use Rattle.nat_box.specs.Nat.{seen_as, seen_by, flow_in, class_in, flow_seen, class_seen}
 
