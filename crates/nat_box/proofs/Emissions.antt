@@ -51,7 +51,7 @@ use Rattle.nat_tables.proofs.Keeping.{may_slot}
 use Rattle.nat_tables.specs.Forwards.{AreMappings}
 use Rattle.nat_box.specs.Nat.{begun, mapped, after_find, after_reserve, after_bind, touched, after_endpoint, looked_by}
 use Rattle.nat_box.specs.Nat.{looked, after_time, told, frame_out, local_at, nat_meaning, MayBind, Fits, segment_told}
-use Rattle.nat_box.specs.Nat.{followed_by, followed}
+use Rattle.nat_box.specs.Nat.{followed}
 use Rattle.nat_box.specs.Noting.{place_again, IsNoted, is_noted, noted_again}
 use Rattle.nat_box.specs.Lawful.{AreSettings, var_of, touches_it, reads_it, below_all, nat_lawful}
 use Rattle.nat_box.specs.Emissions.{Trail, no_trail, left_forward, trail_by, trail_of, WasMapped, Lived}
@@ -794,7 +794,8 @@ seen_translated s r bytes n flow (OfFlow own) seen class source dest tp m l u =
     translated s r bytes own n n.class class (source ∙ ap source_of same)
     (dest ∙ ap (λ (f : Flow). f.dest_port) same) tp m l
 seen_translated s r bytes n flow (OfError error) seen class source dest tp m l u =
-    let same : flow ≡ flow_of_error error = sym (same_flow (Ok (flow_of_error error)) (flow_of_error error) flow refl seen) in
+    let same : flow ≡ flow_of_error error =
+    sym (same_flow (Ok (flow_of_error error)) (flow_of_error error) flow refl seen) in
     error_translated s r bytes error n n.class class (source ∙ ap source_of same)
     (dest ∙ ap (λ (f : Flow). f.dest_port) same) tp l u
 seen_translated s r bytes n flow (OfNeither answer) seen class source dest tp m l u = absurd (cc)

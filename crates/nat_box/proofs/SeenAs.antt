@@ -1,5 +1,6 @@
 -- What a packet is seen as.
-use Rattle.std.proofs.Common.{◌≡◌, ℕ, ◌+◌, ◌^◌, ◌<◌, Bool, true, false, List, refl, sym, ap, ◌∙◌, subst, Option, Some, None}
+use Rattle.std.proofs.Common.{◌≡◌, ℕ, ◌+◌, Bool, true, false, List, refl, sym, ap, ◌∙◌, subst, Option, Some}
+use Rattle.std.proofs.Common.{None}
 use Rattle.std.specs.Prelude.{if◌then◌else◌, ◌==◌, Result, Ok, Err, ◌&&◌}
 use Rattle.plain_text.specs.declared.packet.Packet.{Packet}
 use Rattle.packet_headers.specs.declared.flow.Flow.{Flow}
@@ -14,8 +15,7 @@ use Rattle.icmp_errors.specs.ErrorView.{error_of, viewed_error}
 use Rattle.flow_boxes.proofs.Fitting.{IsWhole, whole, word_fits, long_fits}
 use Rattle.nat_box.specs.declared.place.Class.{Class}
 use Rattle.nat_box.specs.declared.place.Class.TheVariants.{Outbound, Hairpin, Inbound, OutboundError}
-use Rattle.nat_box.specs.declared.seeing.Seen.{Seen}
-use Rattle.nat_box.specs.declared.seeing.Seen.TheVariants.{OfFlow, OfError, OfNeither}
+use Rattle.nat_box.specs.declared.seeing.Seen.TheVariants.{OfFlow}
 use Rattle.nat_box.specs.Nat.{Settings, is_inside, class_of_flow, class_of_error, flow_of_error, error_in, error_or}
 use Rattle.nat_box.specs.Nat.{seen_as, seen_by, flow_in, class_in, flow_seen, class_seen}
 
@@ -68,7 +68,8 @@ flow_whole s p flow is bytes = by (viewed p.bytes p.original) refl is
     of_error answer None e is = absurd (cc)
     of_error answer (Some error) e is =
         let own = error_read p.bytes p.original error (error_there s p.bytes p.original error e).1 in
-        subst IsWhole (ap flow_of_error own ∙ same_flow (Ok (flow_of_error error)) (flow_of_error error) flow refl is) (error_whole p.bytes bytes)
+        subst IsWhole (ap flow_of_error own ∙ same_flow (Ok (flow_of_error error)) (flow_of_error error) flow refl is)
+        (error_whole p.bytes bytes)
 
     by : (r : Result Flow NotFlow) → viewed p.bytes p.original ≡ r
         → flow_in (seen_as s p.bytes p.original r) ≡ Ok flow → IsWhole flow

@@ -1,16 +1,16 @@
 -- Where the static ports stand: each in its forward table, from the start and after each move.
 use Rattle.std.proofs.Common.{◌≡◌, ◌≢◌, ℕ, zero, suc, ◌+◌, ◌*◌, ◌<◌, ◌≤◌, Bool, true, false, List, [], ◌∷◌, refl}
 use Rattle.std.proofs.Common.{sym, ap, ◌∙◌}
-use Rattle.std.proofs.Common.{subst, arith, ◌⊎◌, inl, inr, Option, Some, None}
-use Rattle.std.specs.Prelude.{nat_lt, ◌==◌, ◌&&◌, if◌then◌else◌}
+use Rattle.std.proofs.Common.{arith, inl, inr, Some}
+use Rattle.std.specs.Prelude.{nat_lt, ◌==◌, if◌then◌else◌}
 use Rattle.std.proofs.lemmas.Bool.{eqb-true}
 use Rattle.std.proofs.lemmas.Bool.Decides.{nat_tests}
 use Rattle.entry_order.specs.Stamps.{sum_below}
 use Rattle.nat_tables.specs.declared.entries.Endpoint.{Endpoint}
 use Rattle.nat_tables.specs.declared.entries.PortKey.{PortKey}
 use Rattle.nat_tables.specs.declared.slot.Slot.{Slot}
-use Rattle.nat_tables.specs.Ports.{one_if, of_range, has_port, pool_without}
-use Rattle.nat_tables.specs.Keys.{same_endpoint, same_port, port_key}
+use Rattle.nat_tables.specs.Ports.{one_if, of_range, has_port}
+use Rattle.nat_tables.specs.Keys.{same_port}
 use Rattle.nat_tables.specs.Forwards.{Forwards, slot_of, total, HasKept}
 use Rattle.nat_tables.specs.Reverses.{total_bound}
 use Rattle.nat_tables.proofs.Counting.{port_is, total_without}
@@ -20,10 +20,10 @@ use Rattle.nat_box.specs.declared.nat.StaticPort.{StaticPort}
 use Rattle.nat_box.specs.declared.value.NatValue.{NatValue}
 use Rattle.nat_box.specs.declared.value.NatValue.TheVariants.{Dropped, Free, Mapped, Taken}
 use Rattle.nat_box.specs.Statics.{inside_of, outside_of, kept, outside_ports, IsStatic}
-use Rattle.nat_box.specs.StaticLaws.{IsApart, AreApart, kept_apart}
+use Rattle.nat_box.specs.StaticLaws.{IsApart, AreApart}
 use Rattle.nat_box.specs.Nat.{Settings, forward_table, reverse_table, kept_mappings, kept_bound, fresh_value, Fits}
 use Rattle.nat_box.specs.Lawful.{AreSettings}
-use Rattle.nat_box.specs.PortStanding.{free_at, maps, maps_for, mapped_at, binds, binds_for, taken_at, in_values}
+use Rattle.nat_box.specs.PortStanding.{free_at, maps, mapped_at, taken_at, in_values}
 use Rattle.nat_box.specs.PortStanding.{places_of}
 use Rattle.nat_box.proofs.Effects.{of_range_one}
 

@@ -1,5 +1,6 @@
 -- The laws of programs, of the box with 1 to 64 tables of each kind.
-use Rattle.std.specs.Prelude.{◌≡◌, ℕ, zero, suc, ◌+◌, ◌-◌, ◌*◌, ◌/◌, ◌%◌, ◌^◌, ◌<◌, ◌≤◌, Bool, true, false, List, [], ◌∷◌}
+use Rattle.std.specs.Prelude.{◌≡◌, ℕ, zero, suc, ◌+◌, ◌-◌, ◌*◌, ◌/◌, ◌%◌, ◌^◌, ◌<◌, ◌≤◌, Bool, true, false, List, []}
+use Rattle.std.specs.Prelude.{◌∷◌}
 use Rattle.std.specs.Prelude.{◌++◌, length, take, drop, slice_index, Option, Some, None, Result, Ok, Err, ◌==◌, nat_lt}
 use Rattle.std.specs.Prelude.{refl, if◌then◌else◌}
 use Rattle.std.specs.List.{remove}
@@ -27,7 +28,7 @@ use Rattle.nat_tables.specs.declared.entries.Bind.{Bind}
 use Rattle.nat_tables.specs.declared.entries.Bind.TheVariants.{Bound, Other}
 use Rattle.nat_tables.specs.Ports.{Ports, PoolPorts, chosen, of_even, of_odd, is_even, reserved_of, with_port}
 use Rattle.nat_tables.specs.Ports.{given_back_to, reserve, is_in_range, give_back, IsBelow, AreOfParity}
-use Rattle.nat_tables.specs.Ports.{ArePorts, no_ports, has_port, ports_without}
+use Rattle.nat_tables.specs.Ports.{ArePorts, has_port, ports_without}
 use Rattle.nat_tables.specs.Keys.{port_key}
 use Rattle.nat_tables.specs.Forwards.{Forwards, is_idle, slot_of, first_idle, found, find, bound, find_or_bind, lives}
 use Rattle.nat_tables.specs.declared.phase.Phase.{Phase}

@@ -1,14 +1,12 @@
 -- What holds of the static ports that count, and of the tables that have them from the start.
 use Rattle.std.specs.Prelude.{◌≡◌, ℕ, ◌^◌, ◌<◌, ◌≤◌, Bool, true, false, ◌&&◌, ◌==◌, nat_lt, not, if◌then◌else◌}
-use Rattle.std.specs.Prelude.{List, [], ◌∷◌, ◌++◌, refl, Some, None}
-use Rattle.std.proofs.Common.{arith, ap, sym, subst, ◌∙◌, ◌⊎◌, inl, inr}
+use Rattle.std.specs.Prelude.{List, [], ◌∷◌, ◌++◌, refl}
+use Rattle.std.proofs.Common.{arith, ap, sym, subst, ◌∙◌, inl, inr}
 use Rattle.std.proofs.lemmas.Bool.{eqb-true}
 use Rattle.std.proofs.lemmas.Bool.Decides.{nat_tests}
-use Rattle.nat_tables.specs.declared.entries.Endpoint.{Endpoint}
-use Rattle.nat_tables.specs.declared.entries.PortKey.{PortKey}
 use Rattle.nat_tables.specs.Keys.{same_endpoint, same_port}
-use Rattle.nat_tables.specs.Forwards.{Forwards, Misses, AreMappings, kept_slot, HasKept}
-use Rattle.nat_tables.specs.Reverses.{Reverses, IsUnbound, AreBound}
+use Rattle.nat_tables.specs.Forwards.{Misses, AreMappings, kept_slot, HasKept}
+use Rattle.nat_tables.specs.Reverses.{IsUnbound, AreBound}
 use Rattle.flow_boxes.proofs.Fitting.{same_self}
 use Rattle.nat_box.specs.declared.nat.StaticPort.{StaticPort}
 use Rattle.nat_box.specs.Statics.{inside_of, outside_of, is_whole, clash, is_new, kept_behind, kept, IsStatic}

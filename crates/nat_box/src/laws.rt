@@ -21,10 +21,10 @@ pub fn entries_stand_for_one_endpoint()
 /// What goes out of a run on packets of bytes is the translation (RFC 3022, section 4.1) of the thread's input of that
 /// number: an outbound packet with the port that its source was mapped to at its last find or find-or-bind, an inbound
 /// packet to an endpoint whose mapping to its port lived at its last read, at the time that it was told, and a hairpin
-/// both (RFC 4787, REQ-9). An inbound packet reads, so it refreshes nothing (REQ-6). What goes out of an error of ICMP is
-/// the error with the quoted packet's translation undone: an inbound one goes to the endpoint whose mapping lived, from
-/// which the quoted packet came (RFC 5508, REQ-4); an outbound one comes from the outside address, to which and to whose
-/// port that lived the quoted packet went (REQ-5).
+/// both (RFC 4787, REQ-9). An inbound packet reads, so it refreshes nothing (REQ-6). What goes out of an error of ICMP
+/// is the error with the quoted packet's translation undone: an inbound one goes to the endpoint whose mapping lived,
+/// from which the quoted packet came (RFC 5508, REQ-4); an outbound one comes from the outside address, to which and to
+/// whose port that lived the quoted packet went (REQ-5).
 pub fn emissions_are_translations()
     ensures { EmissionsTranslate }
 {}
