@@ -8,8 +8,9 @@ ghost use Rattle.nat_runs.specs.Causes.{DropsHaveCauses};
 ghost use Rattle.nat_runs.specs.Inbound.{InboundChangesNoTable};
 ghost use Rattle.nat_runs.specs.Refreshing.{HostsRefresh, SentRefresh};
 ghost use Rattle.nat_runs.specs.StaticPorts.{StaticPortsStay, NoneIsDropped, OnlyTheyAreKept};
+ghost use Rattle.nat_runs.specs.StaticPorts.{NoneGoingOutIsDropped, OnlyTheyStart};
 ghost use Rattle.nat_runs.specs.StaticPorts.{MovesAreTheSame, NoneStartsWithoutThem};
-ghost use Rattle.nat_runs.specs.Errors.{BeginsByFlow, SendsByFlow, NoneFindsPort};
+ghost use Rattle.nat_runs.specs.Errors.{BeginsByFlow, SendsByFlow, NoneFindsPort, OtherMovesAreTheSame};
 
 /// After each move of each run, whatever its threads, its inputs and the order of its moves: each packet that a thread
 /// took was sent out once, or counted once as dropped, or is the one in hand and neither yet (`each`). So over all
@@ -77,20 +78,26 @@ pub fn hosts_refresh_their_own_mappings()
 /// After each move of each run, whatever its threads, its inputs and the order of its moves, each static port that
 /// counts stands: its inside endpoint is mapped to its outside port, the port's reverse entry names this endpoint, and
 /// no other endpoint is mapped to the port (`stay`). An inbound packet to it is never counted as dropped, at any time
-/// (`let_in`). No other mapping is kept for good (`kept`). The moves are the same whatever static ports there are
-/// (`moves`), and with none the variables start with all ports free and with empty tables (`none`).
+/// (`let_in`), nor an outbound one from its inside endpoint, whether ports are free or not (`let_out`). No other mapping
+/// is kept for good (`kept`), and at the start no table has anything but theirs (`starts`). The moves are the same
+/// whatever static ports there are (`moves`), and with none the variables start with all ports free and with empty
+/// tables (`none`).
 pub fn static_ports_stay()
     ensures stay { StaticPortsStay }
     ensures let_in { NoneIsDropped }
+    ensures let_out { NoneGoingOutIsDropped }
+    ensures starts { OnlyTheyStart }
     ensures kept { OnlyTheyAreKept }
     ensures moves { MovesAreTheSame }
     ensures none { NoneStartsWithoutThem }
 {}
 
 /// Where the box has no line for errors of ICMP, each packet begins, and is sent out, as its frame is a flow or none
-/// (`begins`, `sends`), and no packet comes to the place of errors that go out (`none`).
+/// (`begins`, `sends`), and no packet comes to the place of errors that go out (`none`). All other moves are the same
+/// with the line and without it (`moves`).
 pub fn errors_go_through_by_the_line()
     ensures begins { BeginsByFlow }
     ensures sends { SendsByFlow }
     ensures none { NoneFindsPort }
+    ensures moves { OtherMovesAreTheSame }
 {}
