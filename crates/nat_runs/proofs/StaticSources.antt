@@ -1,7 +1,7 @@
 -- Outbound packets from the inside endpoints of static ports, and what the tables have at the start.
-use Rattle.std.proofs.Common.{◌≡◌, ℕ, ◌+◌, ◌*◌, ◌-◌, ◌<◌, ◌≤◌, Bool, true, false, List, [], ◌∷◌, refl, sym, ap, ◌∙◌}
+use Rattle.std.proofs.Common.{◌≡◌, ℕ, ◌+◌, ◌*◌, ◌-◌, ◌<◌, Bool, true, false, List, [], ◌∷◌, refl, sym, ap, ◌∙◌}
 use Rattle.std.proofs.Common.{subst, arith, ◌⊎◌, inl, inr, Option, Some, None}
-use Rattle.std.specs.Prelude.{◌&&◌, ◌==◌, not, nat_eq, nat_lt, if◌then◌else◌, Result, Ok}
+use Rattle.std.specs.Prelude.{◌&&◌, ◌==◌, not, nat_lt, if◌then◌else◌, Result, Ok}
 use Rattle.entry_order.proofs.Order.{is_or}
 use Rattle.plain_text.specs.declared.packet.Packet.{Packet}
 use Rattle.entry_order.specs.Log.{Entry, places}
@@ -12,9 +12,9 @@ use Rattle.entry_order.proofs.Order.{touch_only}
 use Rattle.packet_headers.specs.declared.flow.Flow.{Flow}
 use Rattle.packet_headers.specs.declared.flow.NotFlow.{NotFlow}
 use Rattle.packet_headers.specs.Fields.{AreBytes}
-use Rattle.plain_machine.specs.declared.local.Move.TheVariants.{Access, Read}
+use Rattle.plain_machine.specs.declared.local.Move.TheVariants.{Access}
 use Rattle.plain_machine.specs.Machine.{Hand, Thread, Effect, Touches, Moves, held_move}
-use Rattle.plain_machine.specs.History.{Act, Did, Step, act_of, entry_of, log_of, thread_after, value_after, IsHistory}
+use Rattle.plain_machine.specs.History.{Did, Step, act_of, entry_of, log_of, thread_after, value_after, IsHistory}
 use Rattle.plain_machine.proofs.Histories.{not_eq, is_eq}
 use Rattle.plain_machine.proofs.Bounds.{values_fit}
 use Rattle.nat_tables.specs.declared.entries.Endpoint.{Endpoint}
@@ -45,9 +45,10 @@ use Rattle.nat_box.specs.declared.value.NatValue.TheVariants.{Dropped, Free, Map
 use Rattle.nat_box.specs.Places.{place_numbered, noted}
 use Rattle.nat_box.specs.Noting.{place_again}
 use Rattle.nat_box.specs.Statics.{inside_of, outside_of, static_port, kept, outside_ports, IsStatic}
-use Rattle.nat_box.specs.Nat.{Settings, forward_table, reverse_table, flow_seen, class_seen, begun_by, mapped, after_find}
+use Rattle.nat_box.specs.Nat.{Settings, forward_table, reverse_table, flow_seen, class_seen, begun_by, mapped}
+use Rattle.nat_box.specs.Nat.{after_find}
 use Rattle.nat_box.specs.Nat.{touched, followed, looked, told, after_time, local_at, nat_meaning, kept_mappings}
-use Rattle.nat_box.specs.Nat.{kept_bound, fresh_value, Fits}
+use Rattle.nat_box.specs.Nat.{kept_bound, Fits}
 use Rattle.nat_box.specs.Lawful.{AreSettings, var_of, touches_it, nat_lawful}
 use Rattle.nat_box.specs.Sentences.{Has, mappings_in, bound_in}
 use Rattle.nat_box.proofs.Making.{goes_on, comes_to}
@@ -56,7 +57,8 @@ use Rattle.nat_runs.specs.Met.{Met, met_of}
 use Rattle.nat_runs.specs.StaticPorts.{GoesOutFrom, NoneGoingOutIsDropped, OnlyTheyStart}
 use Rattle.nat_runs.proofs.ThreadMoves.{TouchKind, finds, unbinds_freed, gives_freed, reserves, binds, finds_or_binds}
 use Rattle.nat_runs.proofs.ThreadMoves.{unbinds_lost, gives_lost, counts, LookKind, finds_endpoint, asks, finds_port}
-use Rattle.nat_runs.proofs.ThreadMoves.{touch_kind, look_kind, at_clock, at_draw, at, touched_below, read_below, by_move}
+use Rattle.nat_runs.proofs.ThreadMoves.{touch_kind, look_kind, at_clock, at_draw, at, touched_below, read_below}
+use Rattle.nat_runs.proofs.ThreadMoves.{by_move}
 use Rattle.nat_runs.proofs.ThreadMoves.{begins_with}
 use Rattle.nat_runs.proofs.Causes.{entry_is}
 use Rattle.nat_runs.proofs.Knowing.{IsBase, KnownAt, Known, run_known}
@@ -268,7 +270,8 @@ none_going_out_is_dropped s threads inputs x earlier entry left place hand p is 
     let value : ℕ → NatValue = value_after (nat_meaning s) earlier in
     let before : Thread = thread_after earlier x.thread in
     let held : IsHeld (inputs x.thread) before.taken (Some hand) =
-    subst (IsHeld (inputs x.thread) before.taken) there (run_holds (nat_meaning s) threads inputs earlier h.1 x.thread) in
+    subst (IsHeld (inputs x.thread) before.taken) there
+    (run_holds (nat_meaning s) threads inputs earlier h.1 x.thread) in
     let frame : AreBytes hand.packet.bytes = bytes x.thread (before.taken - 1) hand.packet held.1 in
     let straight : Straight s p static (Some hand) =
     subst (Straight s p static) there (run_straight s p static threads inputs earlier is h.1 x.thread) in
