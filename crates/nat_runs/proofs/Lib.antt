@@ -11,5 +11,6 @@ pub mod Causes
 pub mod Passing
 pub mod Refreshing
 pub mod StaticPorts
+pub mod StaticSources
 pub mod Errors
 pub mod Phasing
