@@ -21,9 +21,10 @@ returns-in-Monitor-clause-in_order g c p honest =
 
 pub returns-in-Nat-clause-in_order : goal.returns-in-Nat-clause-in_order
 returns-in-Nat-clause-in_order g c p honest =
-    handed_as (Nat c.in-Nat.nat) c.args.inputs.conf.kind (script_of c.args.inputs)
-    (hand_outputs (hand_names_of c.args.names)) c.args.inputs.events (g.W.World.shows p c.args.world.now)
-    (g.W.World.shows p c.run_hand-in-Nat.new.world) c.in-Nat.is (c.run_hand-in-Nat.ensures.in_order p honest)
+    handed_as _ c.args.inputs.conf.kind (script_of c.args.inputs) (hand_outputs (hand_names_of c.args.names))
+    c.args.inputs.events (g.W.World.shows p c.args.world.now) (g.W.World.shows p c.run_hand-in-Nat.new.world)
+    (c.in-Nat.is ∙ ap Nat (sym c.in-Nat.nat-is))
+    (c.run_hand-in-Nat.ensures.in_order p honest)
 
 pub returns-in-Balancer-clause-in_order : goal.returns-in-Balancer-clause-in_order
 returns-in-Balancer-clause-in_order g c p honest =

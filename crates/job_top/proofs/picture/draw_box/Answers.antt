@@ -19,9 +19,9 @@ returns-in-Monitor-clause-in_order g c p honest =
 
 pub returns-in-Nat-clause-in_order : goal.returns-in-Nat-clause-in_order
 returns-in-Nat-clause-in_order g c p honest =
-    drawn_as (Nat c.in-Nat.nat) c.args.inputs.conf.kind c.args.title.now (script_of c.args.inputs)
-    c.args.inputs.events c.args.name.now (g.W.World.shows p c.args.world.now)
-    (g.W.World.shows p c.run_picture-in-Nat.new.world) c.in-Nat.is
+    drawn_as _ c.args.inputs.conf.kind c.args.title.now (script_of c.args.inputs) c.args.inputs.events c.args.name.now
+    (g.W.World.shows p c.args.world.now) (g.W.World.shows p c.run_picture-in-Nat.new.world)
+    (c.in-Nat.is ∙ ap Nat (sym c.in-Nat.nat-is))
     (c.run_picture-in-Nat.ensures.in_order p honest)
 
 pub returns-in-Balancer-clause-in_order : goal.returns-in-Balancer-clause-in_order

@@ -21,9 +21,10 @@ returns-in-Monitor-clause-shows g c p honest =
 
 pub returns-in-Nat-clause-shows : goal.returns-in-Nat-clause-shows
 returns-in-Nat-clause-shows g c p honest =
-    resumed_as (Nat c.in-Nat.nat) c.args.source.conf.kind (g.W.World.healthy c.args.world.now)
-    (resumption_of c.args.source) (resume_names_of c.args.names) c.resume_box-in-Nat.result
-    (g.W.World.shows p c.args.world.now) (g.W.World.shows p c.resume_box-in-Nat.new.world) c.in-Nat.is
+    resumed_as _ c.args.source.conf.kind (g.W.World.healthy c.args.world.now) (resumption_of c.args.source)
+    (resume_names_of c.args.names) c.resume_box-in-Nat.result (g.W.World.shows p c.args.world.now)
+    (g.W.World.shows p c.resume_box-in-Nat.new.world)
+    (c.in-Nat.is ∙ ap Nat (sym c.in-Nat.nat-is))
     (c.resume_box-in-Nat.ensures.shows p honest)
 
 pub returns-in-Balancer-clause-shows : goal.returns-in-Balancer-clause-shows

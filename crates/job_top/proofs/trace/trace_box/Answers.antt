@@ -20,10 +20,10 @@ returns-in-Monitor-clause-in_order g c p honest =
 
 pub returns-in-Nat-clause-in_order : goal.returns-in-Nat-clause-in_order
 returns-in-Nat-clause-in_order g c p honest =
-    begun_as (Nat c.in-Nat.nat) c.args.inputs.conf.kind (script_of c.args.inputs) c.args.inputs.events
-    c.args.table.now (g.W.World.shows p c.args.world.now) (g.W.World.shows p c.run_trace-in-Nat.new.world)
-    c.drop_register-register.result c.in-Nat.is c.drop_register-register.ensures
-    (c.run_trace-in-Nat.ensures.in_order p honest)
+    begun_as _ c.args.inputs.conf.kind (script_of c.args.inputs) c.args.inputs.events c.args.table.now
+    (g.W.World.shows p c.args.world.now) (g.W.World.shows p c.run_trace-in-Nat.new.world)
+    c.drop_register-register.result (c.in-Nat.is ∙ ap Nat (sym c.in-Nat.nat-is))
+    c.drop_register-register.ensures (c.run_trace-in-Nat.ensures.in_order p honest)
 
 pub returns-in-Balancer-clause-in_order : goal.returns-in-Balancer-clause-in_order
 returns-in-Balancer-clause-in_order g c p honest =
