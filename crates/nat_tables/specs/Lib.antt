@@ -9,3 +9,4 @@ pub mod Times
 pub mod TimesFall
 pub mod Rows
 pub mod Idling
+pub mod Hosts
