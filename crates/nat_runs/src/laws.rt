@@ -10,6 +10,7 @@ ghost use Rattle.nat_runs.specs.Refreshing.{HostsRefresh, SentRefresh};
 ghost use Rattle.nat_runs.specs.StaticPorts.{StaticPortsStay, NoneIsDropped, OnlyTheyAreKept};
 ghost use Rattle.nat_runs.specs.StaticPorts.{MovesAreTheSame, NoneStartsWithoutThem};
 ghost use Rattle.nat_runs.specs.Errors.{BeginsByFlow, SendsByFlow, NoneFindsPort};
+ghost use Rattle.nat_runs.specs.Limits.{HostsKeepWithin, TouchesWithoutLimit, TablesWithoutLimit};
 
 /// After each move of each run, whatever its threads, its inputs and the order of its moves: each packet that a thread
 /// took was sent out once, or counted once as dropped, or is the one in hand and neither yet (`each`). So over all
@@ -84,6 +85,16 @@ pub fn static_ports_stay()
     ensures kept { OnlyTheyAreKept }
     ensures moves { MovesAreTheSame }
     ensures none { NoneStartsWithoutThem }
+{}
+
+/// After each move of each run, whatever its threads, its inputs and the order of its moves: where hosts have a limit,
+/// no host has more mappings of a protocol, over all tables, than it may have, or than it has static ports (`within`;
+/// RFC 6888, REQ-4). Where they have none, each touch is that of the table of moves alone, and a mapping stands in the
+/// table of its whole endpoint (`touches`, `tables`).
+pub fn hosts_keep_within_their_limit()
+    ensures within { HostsKeepWithin }
+    ensures touches { TouchesWithoutLimit }
+    ensures tables { TablesWithoutLimit }
 {}
 
 /// Where the box has no line for errors of ICMP, each packet begins, and is sent out, as its frame is a flow or none

@@ -1,6 +1,6 @@
 -- How many mappings a host has, and a forward table in which no host has more than so many of a protocol (RFC 6888,
 -- REQ-4). A host is an inside address; its ports are counted by protocol.
-use Rattle.std.specs.Prelude.{◌≡◌, ℕ, ◌+◌, Bool, true, false, ◌&&◌, ◌==◌, not, nat_lt, if◌then◌else◌}
+use Rattle.std.specs.Prelude.{ℕ, ◌+◌, Bool, ◌&&◌, ◌==◌, not, nat_lt, if◌then◌else◌}
 use Rattle.std.specs.Prelude.{List, [], ◌∷◌, Option, Some, None}
 use Rattle.nat_tables.specs.declared.entries.Endpoint.{Endpoint}
 use Rattle.nat_tables.specs.declared.slot.Slot.{Slot}
@@ -19,10 +19,9 @@ count_of protocol address [] = 0
 count_of protocol address (e ∷ es) =
     if is_of_host protocol address e.0 then 1 + count_of protocol address es else count_of protocol address es
 
--- it has as many as a host may have; where there is no limit, it may always have more
-abbrev pub is_full : Option ℕ → Endpoint → Forwards → Bool
-is_full None key es = false
-is_full (Some most) key es = not (nat_lt (count_of key.protocol key.address es) most)
+-- it has as many as a host may have
+abbrev pub is_full : ℕ → Endpoint → Forwards → Bool
+is_full most key es = not (nat_lt (count_of key.protocol key.address es) most)
 
 -- the first of its mappings that is idle
 abbrev pub first_idle_of : Endpoint → ℕ → Forwards → Option (Endpoint × Slot)
@@ -35,21 +34,21 @@ abbrev pub given_up : Endpoint → ℕ → Forwards → Option (Endpoint × Slot
 given_up key now es (Some e) = (Absent (Some (port_of e)), without e.0 es)
 given_up key now es None = find key now es
 
-abbrev pub found_within : Option ℕ → Endpoint → ℕ → Forwards → Option Slot → Find × Forwards
+abbrev pub found_within : ℕ → Endpoint → ℕ → Forwards → Option Slot → Find × Forwards
 found_within most key now es (Some slot) = find key now es
 found_within most key now es None =
     if is_full most key es then given_up key now es (first_idle_of key now es) else find key now es
 
 -- What an outbound packet finds of its source, where each host has at most so many mappings.
-abbrev pub find_within : Option ℕ → Endpoint → ℕ → Forwards → Find × Forwards
+abbrev pub find_within : ℕ → Endpoint → ℕ → Forwards → Find × Forwards
 find_within most key now es = found_within most key now es (slot_of key es)
 
-abbrev pub bound_within : Option ℕ → Endpoint → ℕ → ℕ → Forwards → Option Slot → Option Bind × Forwards
+abbrev pub bound_within : ℕ → Endpoint → ℕ → ℕ → Forwards → Option Slot → Option Bind × Forwards
 bound_within most key port now es (Some slot) =
     let r = find_or_bind key port now es in (Some r.0, r.1)
 bound_within most key port now es None =
     if is_full most key es then (None, es) else (let r = find_or_bind key port now es in (Some r.0, r.1))
 
 -- A key without a mapping, whose host has as many as it may have, is bound to nothing.
-abbrev pub bind_within : Option ℕ → Endpoint → ℕ → ℕ → Forwards → Option Bind × Forwards
+abbrev pub bind_within : ℕ → Endpoint → ℕ → ℕ → Forwards → Option Bind × Forwards
 bind_within most key port now es = bound_within most key port now es (slot_of key es)
