@@ -2,15 +2,13 @@
 use Rattle.std.proofs.Common.{◌≡◌, ◌≢◌, ℕ, ◌+◌, ◌-◌, ◌*◌, ◌<◌, Bool, true, false, List, [], ◌∷◌, ◌++◌, refl, sym, ap}
 use Rattle.std.proofs.Common.{◌∙◌}
 use Rattle.std.proofs.Common.{subst, ◌⊎◌, inl, inr, Option, Some, None}
-use Rattle.std.specs.Prelude.{cond, nat_eq, ◌==◌, if◌then◌else◌, Ok}
+use Rattle.std.specs.Prelude.{cond, nat_eq, ◌==◌, if◌then◌else◌}
 use Rattle.plain_text.specs.declared.packet.Packet.{Packet}
 use Rattle.entry_order.proofs.Order.{is_or}
-use Rattle.packet_headers.specs.declared.flow.Flow.{Flow}
 use Rattle.packet_headers.specs.Fields.{AreBytes}
-use Rattle.packet_headers.specs.View.{viewed}
 use Rattle.plain_machine.specs.declared.local.Move.TheVariants.{Access}
 use Rattle.plain_machine.specs.Machine.{Hand, Thread, Effect, Moves, held_move}
-use Rattle.plain_machine.specs.History.{Act, Step, act_of, left_by, thread_after, value_after, IsHistory}
+use Rattle.plain_machine.specs.History.{Act, Step, act_of, left_by, thread_after, value_after}
 use Rattle.plain_machine.proofs.Histories.{not_eq, is_eq}
 use Rattle.plain_machine.proofs.Bounds.{values_fit}
 use Rattle.nat_tables.specs.declared.entries.Endpoint.{Endpoint}
@@ -20,18 +18,17 @@ use Rattle.nat_tables.specs.declared.phase.Phase.TheVariants.{Plain}
 use Rattle.nat_tables.specs.declared.phase.Segment.{Segment}
 use Rattle.nat_tables.specs.Keys.{same_endpoint}
 use Rattle.nat_tables.specs.Phases.{phase_after}
-use Rattle.nat_tables.specs.Forwards.{Forwards, slot_of, is_idle, first_idle, refreshed, refresh, marked, mark, without}
+use Rattle.nat_tables.specs.Forwards.{Forwards, slot_of, is_idle, first_idle, refreshed, refresh, marked, mark}
 use Rattle.nat_tables.specs.Forwards.{found_there, found, bound, Misses, AreMappings}
 use Rattle.nat_tables.proofs.Counting.{same_is}
-use Rattle.flow_boxes.specs.Flows.{source_of}
 use Rattle.flow_boxes.proofs.Fitting.{same_self}
 use Rattle.flow_boxes.proofs.HeldInputs.{IsHeld, run_holds}
 use Rattle.nat_box.specs.declared.place.Place.{Place}
 use Rattle.nat_box.specs.declared.place.Noted.{Noted}
 use Rattle.nat_box.specs.declared.value.NatValue.{NatValue}
-use Rattle.nat_box.specs.declared.value.NatValue.TheVariants.{Dropped, Free, Mapped, Taken}
+use Rattle.nat_box.specs.declared.value.NatValue.TheVariants.{Mapped}
 use Rattle.nat_box.specs.Places.{noted}
-use Rattle.nat_box.specs.Nat.{Settings, segment_of, segment_told, touched, followed_by, followed, nat_meaning, MayMap}
+use Rattle.nat_box.specs.Nat.{Settings, segment_told, touched, followed_by, followed, nat_meaning, MayMap}
 use Rattle.nat_box.specs.Nat.{Fits}
 use Rattle.nat_box.specs.Lawful.{AreSettings, nat_lawful}
 use Rattle.nat_box.specs.Sentences.{Has, mappings_in}
@@ -41,7 +38,7 @@ use Rattle.nat_runs.specs.Following.{phase_then, HadPhase, IsFollowedOn, HostsFo
 use Rattle.nat_runs.proofs.TableEntries.{missed, without_was, without_idle_was}
 use Rattle.nat_runs.proofs.ThreadMoves.{TouchKind, finds, unbinds_freed, gives_freed, reserves, binds, finds_or_binds}
 use Rattle.nat_runs.proofs.ThreadMoves.{unbinds_lost, gives_lost, counts, touch_kind, at, touched_below, by_move}
-use Rattle.nat_runs.proofs.Knowing.{outward_flow, IsBase, IsOnWay, KnownAt, Known, run_known}
+use Rattle.nat_runs.proofs.Knowing.{outward_flow, IsOnWay, KnownAt, Known, run_known}
 
 -- Before the segment is noted: an entry was there, or it is of the packet's endpoint and has the phase of its mapping.
 

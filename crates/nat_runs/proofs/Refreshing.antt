@@ -1,10 +1,9 @@
 -- Packets from inside refresh the mapping of their own endpoint.
 use Rattle.std.proofs.Common.{◌≡◌, ◌≢◌, ℕ, ◌+◌, ◌*◌, ◌-◌, ◌<◌, Bool, true, false, List, refl, sym, ap, ◌∙◌}
 use Rattle.std.proofs.Common.{subst, ◌⊎◌, inl, inr, Option, Some, None}
-use Rattle.std.specs.Prelude.{cond, nat_eq, Ok}
+use Rattle.std.specs.Prelude.{cond, nat_eq}
 use Rattle.plain_text.specs.declared.packet.Packet.{Packet}
 use Rattle.entry_order.proofs.Order.{is_or}
-use Rattle.packet_headers.specs.declared.flow.Flow.{Flow}
 use Rattle.packet_headers.specs.Fields.{AreBytes}
 use Rattle.plain_machine.specs.declared.emission.Emission.{Emission}
 use Rattle.plain_machine.specs.declared.local.Move.TheVariants.{Access}

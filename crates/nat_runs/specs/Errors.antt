@@ -1,6 +1,6 @@
--- Errors of ICMP go through by the line alone: without it a packet is what its frame is as a flow, and none comes to the
--- place of errors.
-use Rattle.std.specs.Prelude.{◌≡◌, ℕ, false, List, Option, Some, Result, Ok, Err}
+-- Errors of ICMP go through by the line alone: without it a packet is what its frame is as a flow, and none comes to
+-- the place of errors.
+use Rattle.std.specs.Prelude.{◌≡◌, ℕ, false, List, Some, Result, Ok, Err}
 use Rattle.plain_text.specs.declared.packet.Packet.{Packet}
 use Rattle.packet_headers.specs.declared.flow.Flow.{Flow}
 use Rattle.packet_headers.specs.declared.flow.NotFlow.{NotFlow}

@@ -5,7 +5,6 @@ use Rattle.packet_headers.specs.declared.flow.Flow.{Flow}
 use Rattle.entry_order.specs.Log.{Entry}
 use Rattle.entry_order.specs.declared.what.What.TheVariants.{Access}
 use Rattle.plain_machine.specs.Machine.{Hand}
-use Rattle.plain_machine.specs.Program.{Meaning}
 use Rattle.plain_machine.specs.History.{Did, Step, thread_after, value_after, IsHistory}
 use Rattle.nat_tables.specs.declared.entries.Endpoint.{Endpoint}
 use Rattle.nat_tables.specs.declared.slot.Slot.{Slot}

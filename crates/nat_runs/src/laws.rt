@@ -54,8 +54,9 @@ pub fn what_comes_in_found_a_used_mapping()
 
 /// Each drop that is counted has the cause of its reason: the frame is no flow (1 to 6), or a stray (9); no port of its
 /// protocol was free (8); nothing was bound to the port that it goes to, or only an idle mapping (7). So what comes to
-/// a port with a used mapping is let in, whatever its source (RFC 4787, REQ-8, endpoint-independent filtering). An error
-/// of ICMP is a stray where it is about no packet that the box may have translated, and else found no used mapping.
+/// a port with a used mapping is let in, whatever its source (RFC 4787, REQ-8, endpoint-independent filtering). An
+/// error of ICMP is a stray where it is about no packet that the box may have translated, and else found no used
+/// mapping.
 pub fn drops_have_their_causes()
     ensures { DropsHaveCauses }
 {}
