@@ -1,5 +1,6 @@
 pub mod TableEntries
 pub mod MarkedEntries
+pub mod Within
 pub mod ThreadMoves
 pub mod Knowing
 pub mod Staying
