@@ -67,7 +67,8 @@ impl HostCounts {
             ≡ one_if (same_host host other) + host_count other self.old) }
         ensures err { OnErr result (self.new ≡ self.old) }
     {
-        self.counts.insert(host, self.count(host) + 1)?;
+        let count = self.count(host);
+        self.counts.insert(host, count + 1)?;
         Ok(())
     }
 
