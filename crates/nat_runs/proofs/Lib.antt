@@ -13,4 +13,5 @@ pub mod Passing
 pub mod Refreshing
 pub mod StaticPorts
 pub mod Errors
+pub mod Limits
 pub mod Phasing

@@ -19,7 +19,7 @@ use Rattle.flow_boxes.specs.Flows.{source_of, HaveBytes}
 use Rattle.nat_box.specs.declared.seeing.Seen.{Seen}
 use Rattle.nat_box.specs.declared.value.NatValue.{NatValue}
 use Rattle.nat_box.specs.Places.{place_numbered, noted}
-use Rattle.nat_box.specs.Nat.{Settings, segment_of, begun, touched, local_at, nat_meaning}
+use Rattle.nat_box.specs.Nat.{Settings, segment_of, begun, touched_by, local_at, nat_meaning}
 use Rattle.nat_box.specs.Lawful.{AreSettings}
 use Rattle.nat_box.specs.Sentences.{Has, mappings_in, IsMapping}
 
@@ -52,7 +52,7 @@ abbrev pub TouchesAsBefore : Type 0
 TouchesAsBefore =
     (s : Settings) → s.closing ≡ None → (v : ℕ) (x : NatValue) (l : Local)
     → (nat_meaning s).touch v x l
-    ≡ (let r = touched (place_numbered l.at) x (noted l) in (r.0, local_at r.1))
+    ≡ (let r = touched_by s.limit (place_numbered l.at) x (noted l) in (r.0, local_at r.1))
 
 abbrev pub BeginsAsBefore : Type 0
 BeginsAsBefore = (s : Settings) → s.closing ≡ None → (seen : Seen) → (begun s seen).noted.segment ≡ Silent
