@@ -580,8 +580,9 @@ up_kept : (key : Endpoint) (port : ℕ) (now : ℕ) (gone : Endpoint × Slot) (e
     → slot_of gone.0 es ≡ Some gone.1 → is_idle now gone ≡ true → HasKept key port es
     → HasKept key port (without gone.0 es)
 up_kept key port now gone es there idle has =
+    let first : Option (Endpoint × Slot) = first_idle now es in
     subst (λ (t : Bool). HasKept key port (found_there gone.0 now es gone.1 t).1) idle
-    (kept_found key port gone.0 now es (Some gone.1) (None {X = Endpoint × Slot}) there has)
+    (kept_found key port gone.0 now es (Some gone.1) first there has)
 
 limited_fits : (s : Settings) (p : Place) (x : NatValue) (n : Noted) (v : ℕ) (r : NatValue × Goes) → IsNoted n
     → var_of s p n ≡ v → Fits s v x → AreHostsWithin s v r.0 → Comes s.limit p x n r → Fits s v r.0

@@ -9,6 +9,7 @@ use Rattle.nat_tables.specs.declared.slot.Slot.{Slot}
 use Rattle.nat_tables.specs.declared.phase.Phase.TheVariants.{Plain}
 use Rattle.nat_tables.specs.declared.entries.Find.{Find}
 use Rattle.nat_tables.specs.declared.entries.Find.TheVariants.{Live, Absent}
+use Rattle.nat_tables.specs.declared.entries.Bind.{Bind}
 use Rattle.nat_tables.specs.Keys.{same_endpoint}
 use Rattle.nat_tables.specs.Ports.{one_if, give_back, PoolPorts}
 use Rattle.nat_tables.specs.Forwards.{Forwards, is_idle, port_of, slot_of, first_idle, refresh, without, without_idle}
@@ -256,12 +257,12 @@ module _ (May : Endpoint → Slot → Type 0) (most : ℕ) (n : Noted) (es : For
   FindComes r =
       Comes (Some most) FindsMapping (Mapped es) n (Mapped r.1, after_find_within most n r.0 r.1)
 
-  as_found : FindComes (find n.source n.time es)
-  as_found = by (after_same most n (find n.source n.time es).0 (find n.source n.time es).1)
-    where
-      abbrev r : Find × Forwards
-      r = find n.source n.time es
+  abbrev r : Find × Forwards
+  r = find n.source n.time es
 
+  as_found : FindComes r
+  as_found = by (after_same most n r.0 r.1)
+    where
       by : (after_find_within most n r.0 r.1 ≡ after_find n r.0)
           ⊎ ((r.0 ≡ Absent None) × (after_find_within most n r.0 r.1 ≡ dropped n over_limit)) → FindComes r
       by (inl same) =
@@ -310,8 +311,10 @@ bind_comes most n es (Some slot) = inl (record { same = refl; port = λ pool at 
 bind_comes most n es None = by (is_full most n.source es)
   where
     by : (b : Bool)
-        → (let r = if b then (None, es)
-        else (let f = find_or_bind n.source n.port n.time es in (Some f.0, f.1)) in
+        → (let bound : Option Bind × Forwards =
+        (let f = find_or_bind n.source n.port n.time es in (Some f.0, f.1)) in
+        let none : Option Bind × Forwards = (None, es) in
+        let r : Option Bind × Forwards = if b then none else bound in
         Comes (Some most) FindsOrBinds (Mapped es) n (Mapped r.1, after_bind_within n r.0))
     by true = inr (inr (inl (record {
       es = es;
