@@ -716,14 +716,13 @@ followed_kept s v n es (Some seconds) all = by (n.source.protocol == 6)
 value_fits : (s : Settings) (v : ℕ) (n : Noted) (x : NatValue) → Fits s v x → Fits s v (followed s n x)
 value_fits s v n (Dropped d) fits = fits
 value_fits s v n (Free pool) fits = fits
-value_fits s v n (Mapped es) fits =
-    (
-      fits.0,
-      fits.1,
-      followed_fit s v n es s.closing refl fits.2,
-      followed_kept s v n es s.closing fits.3,
-      within_followed s.limit (kept_mappings s v (kept s.statics)) s.closing n es fits.4,
-    )
+value_fits s v n (Mapped es) fits = (
+  fits.0,
+  fits.1,
+  followed_fit s v n es s.closing refl fits.2,
+  followed_kept s v n es s.closing fits.3,
+  within_followed s.limit (kept_mappings s v (kept s.statics)) s.closing n es fits.4,
+)
 value_fits s v n (Taken bs) fits = fits
 
 fresh_fits_at : (s : Settings) → AreSettings s → (v : ℕ) → Fits s v (fresh_value s v)
