@@ -1,6 +1,6 @@
 -- What each touch changes in the places of a port.
 use Rattle.std.proofs.Common.{◌≡◌, ℕ, ◌+◌, ◌≤◌, Bool, true, false, [], ◌∷◌, ◌++◌, refl, sym, ap, ◌∙◌, subst, arith}
-use Rattle.std.proofs.Common.{Option, Some, None, ◌⊎◌, inl, inr}
+use Rattle.std.proofs.Common.{Option, Some, None, inl, inr}
 use Rattle.std.specs.Prelude.{◌&&◌, ◌==◌}
 use Rattle.std.proofs.lemmas.Bool.Decides.{nat_tests}
 use Rattle.nat_tables.specs.declared.entries.Endpoint.{Endpoint}
@@ -27,9 +27,9 @@ use Rattle.nat_box.specs.declared.value.NatValue.{NatValue}
 use Rattle.nat_box.specs.declared.value.NatValue.TheVariants.{Dropped, Free, Mapped, Taken}
 use Rattle.nat_box.specs.Places.{source_key}
 use Rattle.nat_box.specs.Nat.{Settings, reverse_table, mapped, after_find, after_reserve, after_bind, touched, Fits}
-use Rattle.nat_box.specs.Nat.{goes, dropped, over_limit, touched_by}
+use Rattle.nat_box.specs.Nat.{goes, dropped, over_limit}
 use Rattle.nat_box.specs.declared.place.Goes.{Goes}
-use Rattle.nat_box.specs.LimitLaws.{GivesUp, DropsFull, RefusesBind, DropsLate, Agrees, Comes}
+use Rattle.nat_box.specs.LimitLaws.{Comes}
 use Rattle.nat_box.specs.Lawful.{var_of}
 use Rattle.nat_box.specs.PortStanding.{free_at, maps, maps_for, mapped_at, binds, binds_for, taken_at, bare, queued}
 use Rattle.nat_box.specs.PortStanding.{queued_for, loose, Tally, IsSound}

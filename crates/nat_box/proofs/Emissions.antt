@@ -51,8 +51,8 @@ use Rattle.nat_tables.proofs.Keeping.{may_slot}
 use Rattle.nat_tables.specs.Forwards.{AreMappings}
 use Rattle.nat_box.specs.Nat.{begun, mapped, after_find, after_reserve, after_bind, touched, after_endpoint, looked_by}
 use Rattle.nat_box.specs.Nat.{looked, after_time, told, frame_out, local_at, nat_meaning, MayBind, Fits, segment_told}
-use Rattle.nat_box.specs.Nat.{followed, dropped, over_limit, touched_by}
-use Rattle.nat_box.specs.LimitLaws.{GivesUp, DropsFull, RefusesBind, DropsLate, Agrees, Comes, IsPort, touch_comes}
+use Rattle.nat_box.specs.Nat.{followed, touched_by}
+use Rattle.nat_box.specs.LimitLaws.{Comes, IsPort, touch_comes}
 use Rattle.nat_box.specs.Noting.{place_again, IsNoted, is_noted, noted_again}
 use Rattle.nat_box.specs.Lawful.{AreSettings, var_of, touches_it, reads_it, below_all, nat_lawful}
 use Rattle.nat_box.specs.Emissions.{Trail, no_trail, left_forward, trail_by, trail_of, WasMapped, Lived}

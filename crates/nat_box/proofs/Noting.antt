@@ -1,6 +1,6 @@
 -- What a touch leaves noted fits its fields.
 use Rattle.std.proofs.Common.{◌≡◌, ℕ, zero, suc, ◌%◌, ◌^◌, ◌<◌, Bool, true, false, List, [], ◌∷◌, length, refl, subst}
-use Rattle.std.proofs.Common.{arith, Option, Some, None, ◌⊎◌, inl, inr}
+use Rattle.std.proofs.Common.{arith, Option, Some, None, inl, inr}
 use Rattle.std.specs.Prelude.{◌==◌, slice_index}
 use Rattle.std.specs.List.{remove}
 use Rattle.nat_tables.specs.Ports.{Ports, PoolPorts, chosen, of_even, of_odd, is_even, reserved_of, reserve}
@@ -10,9 +10,9 @@ use Rattle.nat_tables.specs.Forwards.{AreMappings}
 use Rattle.nat_tables.proofs.Keeping.{may_slot, may_idle}
 use Rattle.nat_box.specs.Places.{source_key}
 use Rattle.nat_box.specs.Nat.{Settings, mapped, after_find, after_reserve, after_bind, touched, MayMap, Fits}
-use Rattle.nat_box.specs.Nat.{goes, dropped, over_limit, touched_by}
+use Rattle.nat_box.specs.Nat.{touched_by}
 use Rattle.nat_box.specs.Noting.{IsNoted}
-use Rattle.nat_box.specs.LimitLaws.{GivesUp, DropsFull, RefusesBind, DropsLate, Agrees, Comes, touch_comes}
+use Rattle.nat_box.specs.LimitLaws.{Comes, touch_comes}
 use Rattle.nat_box.specs.declared.place.Goes.{Goes}
 use Rattle.nat_tables.specs.declared.entries.Endpoint.{Endpoint}
 use Rattle.nat_tables.specs.declared.entries.PortKey.{PortKey}

@@ -2,7 +2,6 @@
 use Rattle.std.specs.Prelude.{◌≡◌, ℕ, zero, suc, ◌+◌, ◌-◌, ◌*◌, ◌/◌, ◌%◌, ◌^◌, ◌<◌, ◌≤◌, Bool, true, false, List, []}
 use Rattle.std.specs.Prelude.{◌∷◌}
 use Rattle.std.specs.Prelude.{◌++◌, length, take, drop, slice_index, Option, Some, None, Result, Ok, Err, ◌==◌, nat_lt}
-use Rattle.std.specs.Prelude.{◌⊎◌}
 use Rattle.std.specs.Prelude.{refl, if◌then◌else◌}
 use Rattle.std.specs.List.{remove}
 use Rattle.std.proofs.Common.{arith, ap, sym, subst, ◌∙◌, inl, inr}
@@ -38,7 +37,7 @@ use Rattle.nat_tables.specs.declared.phase.Phase.TheVariants.{EndedByClient, End
 use Rattle.nat_tables.specs.declared.phase.Segment.{Segment}
 use Rattle.nat_tables.specs.declared.phase.Segment.TheVariants.{Silent, Opens, Carries, Closes}
 use Rattle.nat_tables.specs.Phases.{phase_after}
-use Rattle.nat_tables.specs.Forwards.{refreshed, mark, AreMappings, HasKept, found_there, without, port_of}
+use Rattle.nat_tables.specs.Forwards.{refreshed, mark, AreMappings, HasKept, found_there, without}
 use Rattle.nat_tables.specs.Reverses.{endpoint_of}
 use Rattle.nat_tables.proofs.Keeping.{keeps_refreshed, keeps_without, keeps_without_idle, keeps_bound, keeps_bind}
 use Rattle.nat_tables.proofs.Keeping.{keeps_unbind, keeps_marked}
@@ -61,9 +60,9 @@ use Rattle.nat_box.specs.Nat.{Settings, forward_table, reverse_table, next_move,
 use Rattle.nat_box.specs.Nat.{seen_by, begun_by, used_port, after_port, error_out}
 use Rattle.nat_box.specs.Nat.{begun, mapped, after_find, after_reserve, after_bind, touched, after_endpoint, looked_by}
 use Rattle.nat_box.specs.Nat.{looked, after_time, told, frame_out, bytes_out, local_at, fresh_value, nat_meaning}
-use Rattle.nat_box.specs.Nat.{MayMap, MayBind, HaveKept, Fits, HasPhase, followed_by, followed, goes, dropped}
-use Rattle.nat_box.specs.Nat.{over_limit, touched_by, kept_mappings}
-use Rattle.nat_box.specs.LimitLaws.{GivesUp, DropsFull, RefusesBind, DropsLate, Agrees, Comes, touch_comes, IsWithin}
+use Rattle.nat_box.specs.Nat.{MayMap, MayBind, HaveKept, Fits, HasPhase, followed_by, followed}
+use Rattle.nat_box.specs.Nat.{touched_by, kept_mappings}
+use Rattle.nat_box.specs.LimitLaws.{Comes, touch_comes, IsWithin}
 use Rattle.nat_box.specs.LimitLaws.{touch_within, within_fresh, within_followed}
 use Rattle.nat_box.specs.Statics.{inside_of, kept, outside_ports}
 use Rattle.nat_box.specs.StaticLaws.{fresh_mappings, fresh_kept, fresh_bound}
@@ -717,14 +716,13 @@ followed_kept s v n es (Some seconds) all = by (n.source.protocol == 6)
 value_fits : (s : Settings) (v : ℕ) (n : Noted) (x : NatValue) → Fits s v x → Fits s v (followed s n x)
 value_fits s v n (Dropped d) fits = fits
 value_fits s v n (Free pool) fits = fits
-value_fits s v n (Mapped es) fits =
-    (
-      fits.0,
-      fits.1,
-      followed_fit s v n es s.closing refl fits.2,
-      followed_kept s v n es s.closing fits.3,
-      within_followed s.limit (kept_mappings s v (kept s.statics)) s.closing n es fits.4,
-    )
+value_fits s v n (Mapped es) fits = (
+  fits.0,
+  fits.1,
+  followed_fit s v n es s.closing refl fits.2,
+  followed_kept s v n es s.closing fits.3,
+  within_followed s.limit (kept_mappings s v (kept s.statics)) s.closing n es fits.4,
+)
 value_fits s v n (Taken bs) fits = fits
 
 fresh_fits_at : (s : Settings) → AreSettings s → (v : ℕ) → Fits s v (fresh_value s v)

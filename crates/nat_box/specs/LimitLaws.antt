@@ -1,7 +1,7 @@
 -- The touches where hosts have a limit: which ones differ, and that no host comes to more mappings than it may have.
-use Rattle.std.specs.Prelude.{◌≡◌, ℕ, ◌+◌, ◌<◌, ◌≤◌, max, Bool, true, false, ◌&&◌, ◌==◌, not, nat_lt, if◌then◌else◌}
-use Rattle.std.specs.Prelude.{List, [], ◌∷◌, ◌++◌, refl, Option, Some, None, ◌⊎◌}
-use Rattle.std.proofs.Common.{arith, ap, sym, subst, ◌∙◌, inl, inr}
+use Rattle.std.specs.Prelude.{◌≡◌, ℕ, ◌+◌, ◌<◌, ◌≤◌, max, Bool, true, false, ◌&&◌, ◌==◌, if◌then◌else◌}
+use Rattle.std.specs.Prelude.{[], ◌∷◌, ◌++◌, refl, Option, Some, None, ◌⊎◌}
+use Rattle.std.proofs.Common.{arith, ap, subst, ◌∙◌, inl, inr}
 use Rattle.std.proofs.lemmas.Bool.{eqb-true}
 use Rattle.std.proofs.lemmas.Bool.Decides.{nat_tests}
 use Rattle.nat_tables.specs.declared.entries.Endpoint.{Endpoint}
@@ -12,10 +12,10 @@ use Rattle.nat_tables.specs.declared.entries.Find.TheVariants.{Live, Absent}
 use Rattle.nat_tables.specs.declared.entries.Bind.{Bind}
 use Rattle.nat_tables.specs.Keys.{same_endpoint}
 use Rattle.nat_tables.specs.Ports.{one_if, give_back, PoolPorts}
-use Rattle.nat_tables.specs.Forwards.{Forwards, is_idle, port_of, slot_of, first_idle, refresh, without, without_idle}
+use Rattle.nat_tables.specs.Forwards.{Forwards, is_idle, port_of, slot_of, first_idle, refresh, without}
 use Rattle.nat_tables.specs.Forwards.{found_there, found, find, bound, find_or_bind, mark, total, Misses, AreMappings}
 use Rattle.nat_tables.specs.Hosts.{is_of_host, count_of, is_full, first_idle_of, given_up, found_within, find_within}
-use Rattle.nat_tables.specs.Hosts.{bound_within, bind_within}
+use Rattle.nat_tables.specs.Hosts.{bound_within}
 use Rattle.nat_tables.proofs.Counting.{same_is, total_refresh, total_marked, total_without, total_without_idle}
 use Rattle.nat_tables.proofs.Counting.{total_append}
 use Rattle.flow_boxes.proofs.Fitting.{same_self}
@@ -29,7 +29,7 @@ use Rattle.nat_box.specs.declared.place.Goes.{Goes}
 use Rattle.nat_box.specs.declared.value.NatValue.{NatValue}
 use Rattle.nat_box.specs.declared.value.NatValue.TheVariants.{Dropped, Free, Mapped, Taken}
 use Rattle.nat_box.specs.Places.{source_key}
-use Rattle.nat_box.specs.Nat.{Settings, goes, dropped, over_limit, after_find, after_bind, touched, after_find_within}
+use Rattle.nat_box.specs.Nat.{Settings, goes, dropped, over_limit, after_find, touched, after_find_within}
 use Rattle.nat_box.specs.Nat.{after_bind_within, after_lost, limited, touched_by, followed_by, MayMap, AreWithin, Fits}
 
 -- How many mappings a host has is a sum over the mappings

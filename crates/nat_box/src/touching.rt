@@ -4,6 +4,8 @@ ghost use Rattle.nat_box.specs.Nat.{after_endpoint, looked, told, followed_by};
 ghost use Rattle.nat_box.specs.Nat.{looked_by, used_port, after_port, touched_by};
 ghost use Rattle.nat_box.specs.Nat.{after_find_within, after_bind_within, after_lost};
 ghost use Rattle.nat_box.specs.declared.place.Place.TheVariants.{FindsMapping, FindsOrBinds};
+ghost use Rattle.nat_box.specs.declared.place.Place.TheVariants.{UnbindsLost};
+ghost use Rattle.nat_box.specs.Places.{source_key};
 ghost use Rattle.nat_tables.specs.Forwards.{lives};
 ghost use Rattle.nat_box.specs.Boxes.{settings_of};
 ghost use Rattle.nat_box.specs.declared.value.NatValue.TheVariants.{Dropped, Free, Mapped, Taken};
@@ -75,23 +77,28 @@ impl Noted {
         }
     }
 
+    /// The port in hand is given up; this port is noted in its place.
+    fn loses(self, port: u16) -> Goes
+        ensures { result ≡ goes UnbindsLost (record self { port = port; freed = source_key self }) }
+    {
+        let freed: Freed = self.source_key();
+        Goes::to(
+            Place::UnbindsLost,
+            Noted {
+                port,
+                freed,
+                ..self
+            },
+        )
+    }
+
     /// A port that another packet's mapping made needless is given up.
     fn after_bind(self, bind: Bind) -> Goes
         ensures { result ≡ after_bind self bind }
     {
         match bind {
             Bind::Bound => self.mapped(),
-            Bind::Other(port) => {
-                let freed: Freed = self.source_key();
-                Goes::to(
-                    Place::UnbindsLost,
-                    Noted {
-                        port,
-                        freed,
-                        ..self
-                    },
-                )
-            }
+            Bind::Other(port) => self.loses(port),
         }
     }
 
@@ -111,17 +118,7 @@ impl Noted {
     {
         match bind {
             Some(bind) => self.after_bind(bind),
-            None => {
-                let freed: Freed = self.source_key();
-                Goes::to(
-                    Place::UnbindsLost,
-                    Noted {
-                        port: 0,
-                        freed,
-                        ..self
-                    },
-                )
-            }
+            None => self.loses(0),
         }
     }
 
