@@ -51,7 +51,7 @@ counted s m p _ _ n limit (gives_lost pool) e k = absurd (omega arith)
 counted s m p _ _ n None (counts d) e k = (d, n.word, refl, ap Dropped (drop_is n.word d k.0 k.1), k.2)
 counted s m p _ _ n (Some most) (counts d) e k = (d, n.word, refl, ap Dropped (drop_is n.word d k.0 k.1), k.2)
 
-entry_is : (a b : Entry) (left right : Option NatValue) → Did a left ≡ Did b right → a.what ≡ b.what
+pub entry_is : (a b : Entry) (left right : Option NatValue) → Did a left ≡ Did b right → a.what ≡ b.what
 entry_is a b left right e = let same : a ≡ b = cc in ap (λ (x : Entry). x.what) same
 
 module _ (s : Settings) (is : AreSettings s) (packets : List Packet) (value : ℕ → NatValue) (t : ℕ)

@@ -39,9 +39,9 @@ not_on_way s m p n (inr error) on =
 touches_counts : (s : Settings) (m : Met) (p : Packet) (place : Place) (x : NatValue) (n : Noted) → TouchKind place x
     → IsInbound s p ⊎ IsError p → KnownAt s m p place n → var_of s place n ≡ 0
 touches_counts s m p _ _ n (finds es) i k = absurd (not_on_way s m p n i k)
-touches_counts s m p _ _ n (unbinds_freed bs) i k = absurd (not_on_way s m p n i k)
-touches_counts s m p _ _ n (gives_freed pool) i k = absurd (not_on_way s m p n i k)
-touches_counts s m p _ _ n (reserves pool) i k = absurd (not_on_way s m p n i k)
+touches_counts s m p _ _ n (unbinds_freed bs) i k = absurd (not_on_way s m p n i k.0)
+touches_counts s m p _ _ n (gives_freed pool) i k = absurd (not_on_way s m p n i k.0)
+touches_counts s m p _ _ n (reserves pool) i k = absurd (not_on_way s m p n i k.0)
 touches_counts s m p _ _ n (binds bs) i k = absurd (not_on_way s m p n i k)
 touches_counts s m p _ _ n (finds_or_binds es) i k = absurd (not_on_way s m p n i k)
 touches_counts s m p _ _ n (unbinds_lost bs) i k = absurd (not_on_way s m p n i k.0)

@@ -46,7 +46,7 @@ use Rattle.flow_boxes.specs.Flows.{endpoint, source_of}
 use Rattle.nat_box.specs.Places.{place_numbered, noted, dest_key, local_of, number_of_segment, segment_numbered}
 use Rattle.nat_box.specs.declared.place.Goes.{Goes}
 use Rattle.nat_box.specs.Nat.{Settings, goes, forward_table, reverse_table, class_of_flow, flow_in, class_in, flow_seen}
-use Rattle.nat_box.specs.Nat.{class_seen, seen_by, noted_flow, used_port, after_port}
+use Rattle.nat_box.specs.Nat.{class_seen, seen_by, noted_flow, used_slot, used_port, after_port}
 use Rattle.flow_boxes.specs.Drops.{reason_of}
 use Rattle.nat_box.specs.Nat.{dropped, over_limit, after_find_within, after_bind_within, after_lost, touched_by}
 use Rattle.nat_box.specs.Nat.{begun_by, segment_told, followed_by, followed}
@@ -91,6 +91,15 @@ IsTold s m p n = IsBase s p n × (m.clock ≡ Some n.time)
 abbrev pub IsOnWay : Settings → Met → Packet → Noted → Type 0
 IsOnWay s m p n = IsBase s p n × (m.clock ≡ Some n.time) × IsOutward n.class
 
+-- its source had no mapping that is not idle
+abbrev pub WasUnmapped : Settings → Met → Noted → Type 0
+WasUnmapped s m n =
+    (value : ℕ → NatValue) × (m.at_touch ≡ Some value) × ((port : ℕ) → HasNoneUsed s value n.source port n.time)
+
+-- and it takes a port for it
+abbrev pub IsWanting : Settings → Met → Packet → Noted → Type 0
+IsWanting s m p n = IsOnWay s m p n × WasUnmapped s m n
+
 -- the mapping of its source was used at its time or later
 abbrev pub Refreshed : Met → Noted → Type 0
 Refreshed m n =
@@ -117,10 +126,10 @@ IsToCount s m p n = (1 ≤ n.word) × (n.word ≤ 10) × (AreBytes p.bytes → C
 abbrev pub KnownAt : Settings → Met → Packet → Place → Noted → Type 0
 KnownAt s m p HearsTime n = IsBase s p n
 KnownAt s m p FindsMapping n = IsOnWay s m p n
-KnownAt s m p UnbindsFreed n = IsOnWay s m p n
-KnownAt s m p GivesBackFreed n = IsOnWay s m p n
-KnownAt s m p DrawsWord n = IsOnWay s m p n
-KnownAt s m p ReservesPort n = IsOnWay s m p n
+KnownAt s m p UnbindsFreed n = IsWanting s m p n
+KnownAt s m p GivesBackFreed n = IsWanting s m p n
+KnownAt s m p DrawsWord n = IsWanting s m p n
+KnownAt s m p ReservesPort n = IsWanting s m p n
 KnownAt s m p BindsPort n = IsOnWay s m p n
 KnownAt s m p FindsOrBinds n = IsOnWay s m p n
 KnownAt s m p UnbindsLost n = IsOnWay s m p n × HasLost s m n
@@ -308,22 +317,30 @@ module _ (s : Settings) (p : Packet) where
       omega arith,
     )
 
-    there_known : (slot : Slot) (idle : Bool) → slot_of n.source es ≡ Some slot
-        → (let f = found_there n.source n.time es slot idle in
-        KnownAt s (leaving f.1) p (after_find n f.0).place (after_find n f.0).noted)
-    there_known slot true is =
-        (base_on n (record n { freed = port_of (n.source, slot) }) refl refl refl refl k.0, k.1, k.2)
-    there_known slot false is =
-        let o : Noted = record n { port = slot.port } in
-        mapped_known (leaving (refresh n.source n.time es)) o o.class refl
-        (base_on n o refl refl refl refl k.0, k.1, k.2) (refreshes slot is)
+    -- where it has no mapping that is not idle, it had none when the packet touched the table
+    module _ (unmapped : used_port n.source n.time es ≡ None → WasUnmapped s m n) where
+      there_known : (slot : Slot) (idle : Bool) → slot_of n.source es ≡ Some slot
+          → is_idle n.time (n.source, slot) ≡ idle
+          → (let f = found_there n.source n.time es slot idle in
+          KnownAt s (leaving f.1) p (after_find n f.0).place (after_find n f.0).noted)
+      there_known slot true is q =
+          let none : used_port n.source n.time es ≡ None =
+          ap (used_slot n.source n.time) is ∙ ap (λ (b : Bool). if b then None else Some slot.port) q in
+          ((base_on n (record n { freed = port_of (n.source, slot) }) refl refl refl refl k.0, k.1, k.2), unmapped none)
+      there_known slot false is q =
+          let o : Noted = record n { port = slot.port } in
+          mapped_known (leaving (refresh n.source n.time es)) o o.class refl
+          (base_on n o refl refl refl refl k.0, k.1, k.2) (refreshes slot is)
 
-    found_known : (a : Option Slot) (b : Option (Endpoint × Slot)) → slot_of n.source es ≡ a
-        → (let f = found n.source n.time es a b in
-        KnownAt s (leaving f.1) p (after_find n f.0).place (after_find n f.0).noted)
-    found_known (Some slot) b is = there_known slot (is_idle n.time (n.source, slot)) is
-    found_known None (Some gone) is = (base_on n (record n { freed = port_of gone }) refl refl refl refl k.0, k.1, k.2)
-    found_known None None is = k
+      found_known : (a : Option Slot) (b : Option (Endpoint × Slot)) → slot_of n.source es ≡ a
+          → (let f = found n.source n.time es a b in
+          KnownAt s (leaving f.1) p (after_find n f.0).place (after_find n f.0).noted)
+      found_known (Some slot) b is = there_known slot (is_idle n.time (n.source, slot)) is refl
+      found_known None (Some gone) is = (
+        (base_on n (record n { freed = port_of gone }) refl refl refl refl k.0, k.1, k.2),
+        unmapped (ap (used_slot n.source n.time) is),
+      )
+      found_known None None is = (k, unmapped (ap (used_slot n.source n.time) is))
 
     bound_known : (a : Option Slot) → slot_of n.source es ≡ a
         → ((slot : Slot) → slot_of n.source es ≡ Some slot → 1 ≤ slot.port)
@@ -466,7 +483,7 @@ module _ (s : Settings) (p : Packet) where
             too_many left n k
             (refused_followed (record m { left = Some es }) left n s.closing n es refl refl
             (most, limit, es, refl, none refl, full_has most n.source es full))
-        by false full = k
+        by false full = known
 
     refused_known : (es : Forwards) → slot_of n.source es ≡ None → is_full most n.source es ≡ true
         → (let g = after_bind_within n None in
@@ -486,6 +503,17 @@ module _ (s : Settings) (p : Packet) where
   -- a touch, and a read, of variables with these values
   module _ (value : ℕ → NatValue) (fits : (v : ℕ) → v < 2 + 2 * s.shards → Fits s v (value v))
       (ports : (v : ℕ) (e : Endpoint × Slot) → IsMapping s value v e → 1 ≤ e.1.port) where
+    -- where the endpoint's own table has none that is not idle, no table has
+    none_used : (n : Noted) (w : ℕ) (es : Forwards) → value w ≡ Mapped es → w < 2 + 2 * s.shards
+        → forward_table s n.source ≡ w → used_port n.source n.time es ≡ None
+        → (port : ℕ) → HasNoneUsed s value n.source port n.time
+    none_used n w es is low at e port v slot h to =
+        let there : v ≡ w = mapping_at s v (value v) n.source slot (fits v h.0) h.1 ∙ at in
+        let idle : AreIdle es n.source port n.time =
+        lives_not (MayMap s w) n.source port n.time es (subst (Fits s w) is (fits w low)).2
+        (unused_lives_not n.source n.time es e port) in
+        idle slot (subst (λ (x : NatValue). Has (mappings_in x) (n.source, slot)) (ap value there ∙ is) h.1) to
+
     none_anywhere : (n : Noted) (pool : PoolPorts) (w : ℕ) → value w ≡ Free pool → 1 ≡ w
         → (reserve n.source.protocol n.source.port n.word pool).0 ≡ None → (v port : ℕ) → v < 2 + 2 * s.shards
         → free_at (port_key n.source.protocol port) (value v) ≡ 0
@@ -499,21 +527,28 @@ module _ (s : Settings) (p : Packet) where
         by (inr q) = free_elsewhere s v (value v) (port_key n.source.protocol port) (fits v below) q
 
     reserved_known : (m : Met) (n : Noted) (pool : PoolPorts) (w : ℕ) (o : Option ℕ) → value w ≡ Free pool → 1 ≡ w
-        → (reserve n.source.protocol n.source.port n.word pool).0 ≡ o → IsOnWay s m p n
+        → (reserve n.source.protocol n.source.port n.word pool).0 ≡ o → IsWanting s m p n
         → KnownAt s (record m { at_pool = Some value }) p (after_reserve n o).place (after_reserve n o).noted
     reserved_known m n pool w (Some port) is at e k =
-        (base_on n (record n { port = port }) refl refl refl refl k.0, k.1, k.2)
+        (base_on n (record n { port = port }) refl refl refl refl k.0.0, k.0.1, k.0.2)
     reserved_known m n pool w None is at e k = (omega arith, omega arith, cause)
       where
         cause : AreBytes p.bytes → Cause s p (record m { at_pool = Some value }) 8
         cause bytes = inr (inr (inl (
-          k.0.flow,
-          (outward_flow s p n k.0 k.2).0,
-          from_inside s p n k.0 k.2,
+          k.0.0.flow,
+          (outward_flow s p n k.0.0 k.0.2).0,
+          from_inside s p n k.0.0 k.0.2,
+          (
+            k.1.0,
+            n.time,
+            k.1.1,
+            k.0.1,
+            subst (λ (key : Endpoint). (port : ℕ) → HasNoneUsed s k.1.0 key port n.time) (k.0.0.source bytes) k.1.2,
+          ),
           value,
           refl,
           subst (λ (q : ℕ). (v port : ℕ) → v < 2 + 2 * s.shards → free_at (port_key q port) (value v) ≡ 0)
-              (ap (λ (q : Endpoint). q.protocol) (k.0.source bytes)) (none_anywhere n pool w is at e),
+              (ap (λ (q : Endpoint). q.protocol) (k.0.0.source bytes)) (none_anywhere n pool w is at e),
           refl,
         )))
 
@@ -529,18 +564,27 @@ module _ (s : Settings) (p : Packet) where
         KnownAt s (met_by_touch value x (Some (followed s n r.0)) m) p r.1.place r.1.noted)
     touch_known m w _ _ n None limit is low (finds es) at k =
         let f = found n.source n.time es (slot_of n.source es) (first_idle n.time es) in
-        left_by_followed m s.closing n f.1 (after_find n f.0).place (after_find n f.0).noted (find_place n f.0)
-        (found_known m n es k (slot_of n.source es) (first_idle n.time es) refl)
+        let q : Met = record m { at_touch = Some value } in
+        left_by_followed q s.closing n f.1 (after_find n f.0).place (after_find n f.0).noted (find_place n f.0)
+        (found_known q n es k (λ e. (value, refl, none_used n w es is low at e)) (slot_of n.source es)
+        (first_idle n.time es) refl)
     touch_known m w _ _ n (Some most) limit is low (finds es) at k =
         let a : Option Slot = slot_of n.source es in
         let b : Option (Endpoint × Slot) = first_idle n.time es in
         let f = found n.source n.time es a b in
+        let q : Met = record m { at_touch = Some value } in
+        let unmapped : used_port n.source n.time es ≡ None → WasUnmapped s q n =
+        (λ e. (value, refl, none_used n w es is low at e)) in
         by_find most n.source n.time es
         (λ (r : Find × Forwards).
         let g = after_find_within most n r.0 r.1 in
-        KnownAt s (record m { left = Some (followed_by s.closing n r.1) }) p g.place g.noted)
-        (within_known m n most limit k f.0 f.1 (found_none n.source n.time es a b refl) (found_known m n es k a b refl))
-        (λ e idle. (base_on n (record n { freed = port_of e }) refl refl refl refl k.0, k.1, k.2))
+        KnownAt s (record q { left = Some (followed_by s.closing n r.1) }) p g.place g.noted)
+        (within_known q n most limit k f.0 f.1 (found_none n.source n.time es a b refl)
+        (found_known q n es k unmapped a b refl))
+        (λ e none idle. (
+          (base_on n (record n { freed = port_of e }) refl refl refl refl k.0, k.1, k.2),
+          unmapped (ap (used_slot n.source n.time) none),
+        ))
     touch_known m w _ _ n None limit is low (unbinds_freed bs) at k = k
     touch_known m w _ _ n (Some most) limit is low (unbinds_freed bs) at k = k
     touch_known m w _ _ n None limit is low (gives_freed pool) at k = k
@@ -553,17 +597,19 @@ module _ (s : Settings) (p : Packet) where
     touch_known m w _ _ n (Some most) limit is low (binds bs) at k = k
     touch_known m w _ _ n None limit is low (finds_or_binds es) at k =
         let b = bound n.source n.port n.time es (slot_of n.source es) in
-        left_by_followed m s.closing n b.1 (after_bind n b.0).place (after_bind n b.0).noted (bind_place n b.0)
-        (bound_known m n es k (slot_of n.source es) refl (own_port w es n.source is low))
+        let q : Met = record m { at_touch = Some value } in
+        left_by_followed q s.closing n b.1 (after_bind n b.0).place (after_bind n b.0).noted (bind_place n b.0)
+        (bound_known q n es k (slot_of n.source es) refl (own_port w es n.source is low))
     touch_known m w _ _ n (Some most) limit is low (finds_or_binds es) at k =
         let b = bound n.source n.port n.time es (slot_of n.source es) in
+        let q : Met = record m { at_touch = Some value } in
         by_bind most n.source n.time es n.port
         (λ (r : Option Bind × Forwards).
         let g = after_bind_within n r.0 in
-        KnownAt s (record m { left = Some (followed_by s.closing n r.1) }) p g.place g.noted)
-        (left_by_followed m s.closing n b.1 (after_bind n b.0).place (after_bind n b.0).noted (bind_place n b.0)
-        (bound_known m n es k (slot_of n.source es) refl (own_port w es n.source is low)))
-        (refused_known m n most limit k es)
+        KnownAt s (record q { left = Some (followed_by s.closing n r.1) }) p g.place g.noted)
+        (left_by_followed q s.closing n b.1 (after_bind n b.0).place (after_bind n b.0).noted (bind_place n b.0)
+        (bound_known q n es k (slot_of n.source es) refl (own_port w es n.source is low)))
+        (refused_known q n most limit k es)
     touch_known m w _ _ n None limit is low (unbinds_lost bs) at k = k
     touch_known m w _ _ n (Some most) limit is low (unbinds_lost bs) at k = k
     touch_known m w _ _ n None limit is low (gives_lost pool) at (k, inl r) =
@@ -666,14 +712,6 @@ module _ (s : Settings) (p : Packet) where
         )
     port_known m n w es None is low at e k = (omega arith, omega arith, cause)
       where
-        none : (port : ℕ) → HasNoneUsed s value n.source port n.time
-        none port v slot h to =
-            let there : v ≡ w = mapping_at s v (value v) n.source slot (fits v h.0) h.1 ∙ at in
-            let idle : AreIdle es n.source port n.time =
-            lives_not (MayMap s w) n.source port n.time es (subst (Fits s w) is (fits w low)).2
-            (unused_lives_not n.source n.time es e port) in
-            idle slot (subst (λ (x : NatValue). Has (mappings_in x) (n.source, slot)) (ap value there ∙ is) h.1) to
-
         cause : AreBytes p.bytes → Cause s p (record m { at_forward = Some value }) 7
         cause bytes =
             let base : IsBase s p n = k.0.0 in
@@ -685,7 +723,8 @@ module _ (s : Settings) (p : Packet) where
               n.time,
               refl,
               k.0.1,
-              subst (λ (key : Endpoint). (port : ℕ) → HasNoneUsed s value key port n.time) (base.source bytes) none,
+              subst (λ (key : Endpoint). (port : ℕ) → HasNoneUsed s value key port n.time) (base.source bytes)
+                  (none_used n w es is low at e),
               refl,
             )))))
 
@@ -795,10 +834,10 @@ module _ (s : Settings) (is : AreSettings s) (packets : List Packet) (value : �
   told_word h a place q k =
       let n : Noted = noted h.place in
       let o : Noted = record n { word = a } in
-      let on : IsOnWay s m h.packet n = subst (λ (z : Place). KnownAt s m h.packet z n) q k in
+      let on : IsWanting s m h.packet n = subst (λ (z : Place). KnownAt s m h.packet z n) q k in
       subst (λ (z : Place). Known s m (goes_on h (told z a n))) (sym q)
       (known_on s m h (goes ReservesPort o) (worded n a (is_noted h.place))
-      (base_on s h.packet n o refl refl refl refl on.0, on.1, on.2))
+      ((base_on s h.packet n o refl refl refl refl on.0.0, on.0.1, on.0.2), on.1))
 
   pub move_keeps : (after : Thread) (d : Effect NatValue) (hand : Option Hand) (a : Option ℕ)
       → held_move (nat_meaning s) packets value taken a hand ≡ Moves after d → Keeps hand after.hand d

@@ -12,6 +12,7 @@ pub mod Causes
 pub mod Passing
 pub mod Refreshing
 pub mod StaticPorts
+pub mod StaticSources
 pub mod Errors
 pub mod Limits
 pub mod Phasing

@@ -237,7 +237,7 @@ module _ (s : Settings) (m : Met) (p : Packet) (e : Endpoint × Slot) where
       now_of n es k (followed_now (MayMap s v) s.closing n es (find_within most n.source n.time es).1 e fits.2
       (by_find most n.source n.time es
       (λ (r : Find × Forwards). (x : Endpoint × Slot) → Has r.1 x → IsOld n.source es x)
-      (λ x there. found_old n.source n.time es a b x there) (λ gone q x there. inl (without_was gone.0 es x there))) h)
+      (λ x there. found_old n.source n.time es a b x there) (λ gone none q x there. inl (without_was gone.0 es x there))) h)
   touch_now v _ _ n None (unbinds_freed bs) fits k h = absurd h
   touch_now v _ _ n (Some most) (unbinds_freed bs) fits k h = absurd h
   touch_now v _ _ n None (gives_freed pool) fits k h = absurd h

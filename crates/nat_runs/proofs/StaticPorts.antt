@@ -343,9 +343,9 @@ module _ (s : Settings) (threads : ℕ) (inputs : ℕ → List Packet) (p : Stat
   no_cause reason (inl (answer, seen, why)) = let both : Ok to.0 ≡ Err answer = sym to.1 ∙ seen in absurd (cc)
   no_cause reason (inr (inl (flow, seen, class, why))) =
       let both : Some Inbound ≡ None = sym to.2 ∙ class in absurd (cc)
-  no_cause reason (inr (inr (inl (flow, seen, inl class, value, pool, none, why)))) =
+  no_cause reason (inr (inr (inl (flow, seen, inl class, had, value, pool, none, why)))) =
       let both : Some Inbound ≡ Some Outbound = sym to.2 ∙ class_is_seen s packet flow seen ∙ class in absurd (cc)
-  no_cause reason (inr (inr (inl (flow, seen, inr class, value, pool, none, why)))) =
+  no_cause reason (inr (inr (inl (flow, seen, inr class, had, value, pool, none, why)))) =
       let both : Some Inbound ≡ Some Hairpin = sym to.2 ∙ class_is_seen s packet flow seen ∙ class in absurd (cc)
   no_cause reason (inr (inr (inr (inl (flow, seen, goes, bound, read, inl unbound, why))))) =
       it_is_bound s threads inputs p is static bound (old.reverse bound read)
