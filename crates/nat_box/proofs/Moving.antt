@@ -192,7 +192,10 @@ Outcome s value before after (Touches v left) =
     × (left ≡ followed s (noted h.place) (touched_by s.limit (place_numbered h.place.at) (value v) (noted h.place)).0)
     × (after
     ≡ Some
-    (record { packet = h.packet; place = local_at (touched_by s.limit (place_numbered h.place.at) (value v) (noted h.place)).1 }))
+    (record {
+      packet = h.packet;
+      place = local_at (touched_by s.limit (place_numbered h.place.at) (value v) (noted h.place)).1;
+    }))
 Outcome s value before after Takes = HandNone before × HandNone after
 Outcome s value before after (Looks v) = HandNone before × HandNone after
 Outcome s value before after (HearsClock a) = HandNone before × HandNone after

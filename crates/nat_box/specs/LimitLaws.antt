@@ -334,22 +334,35 @@ lost_comes most n pool false is = inl (record { same = refl; port = λ pool at v
 
 limited_comes : (May : Endpoint → Slot → Type 0) (most : ℕ) (p : Place) (x : NatValue) (n : Noted)
     → ((es : Forwards) → x ≡ Mapped es → AreMappings May es) → Comes (Some most) p x n (limited most p x n)
-limited_comes May most HearsTime x n all = inl (record { same = refl; port = λ pool at value. absurd (cc) })
-limited_comes May most FindsMapping (Dropped d) n all = inl (record { same = refl; port = λ pool at value. absurd (cc) })
-limited_comes May most FindsMapping (Free pool) n all = inl (record { same = refl; port = λ pool at value. absurd (cc) })
+limited_comes May most HearsTime x n all =
+    inl (record { same = refl; port = λ pool at value. absurd (cc) })
+limited_comes May most FindsMapping (Dropped d) n all =
+    inl (record { same = refl; port = λ pool at value. absurd (cc) })
+limited_comes May most FindsMapping (Free pool) n all =
+    inl (record { same = refl; port = λ pool at value. absurd (cc) })
 limited_comes May most FindsMapping (Mapped es) n all =
     found_by May most n es (all es refl) (slot_of n.source es)
-limited_comes May most FindsMapping (Taken bs) n all = inl (record { same = refl; port = λ pool at value. absurd (cc) })
-limited_comes May most UnbindsFreed x n all = inl (record { same = refl; port = λ pool at value. absurd (cc) })
-limited_comes May most GivesBackFreed x n all = inl (record { same = refl; port = λ pool at value. absurd (cc) })
-limited_comes May most DrawsWord x n all = inl (record { same = refl; port = λ pool at value. absurd (cc) })
-limited_comes May most ReservesPort x n all = inl (record { same = refl; port = λ pool at value. absurd (cc) })
-limited_comes May most BindsPort x n all = inl (record { same = refl; port = λ pool at value. absurd (cc) })
-limited_comes May most FindsOrBinds (Dropped d) n all = inl (record { same = refl; port = λ pool at value. absurd (cc) })
-limited_comes May most FindsOrBinds (Free pool) n all = inl (record { same = refl; port = λ pool at value. absurd (cc) })
+limited_comes May most FindsMapping (Taken bs) n all =
+    inl (record { same = refl; port = λ pool at value. absurd (cc) })
+limited_comes May most UnbindsFreed x n all =
+    inl (record { same = refl; port = λ pool at value. absurd (cc) })
+limited_comes May most GivesBackFreed x n all =
+    inl (record { same = refl; port = λ pool at value. absurd (cc) })
+limited_comes May most DrawsWord x n all =
+    inl (record { same = refl; port = λ pool at value. absurd (cc) })
+limited_comes May most ReservesPort x n all =
+    inl (record { same = refl; port = λ pool at value. absurd (cc) })
+limited_comes May most BindsPort x n all =
+    inl (record { same = refl; port = λ pool at value. absurd (cc) })
+limited_comes May most FindsOrBinds (Dropped d) n all =
+    inl (record { same = refl; port = λ pool at value. absurd (cc) })
+limited_comes May most FindsOrBinds (Free pool) n all =
+    inl (record { same = refl; port = λ pool at value. absurd (cc) })
 limited_comes May most FindsOrBinds (Mapped es) n all = bind_comes most n es (slot_of n.source es)
-limited_comes May most FindsOrBinds (Taken bs) n all = inl (record { same = refl; port = λ pool at value. absurd (cc) })
-limited_comes May most UnbindsLost x n all = inl (record { same = refl; port = λ pool at value. absurd (cc) })
+limited_comes May most FindsOrBinds (Taken bs) n all =
+    inl (record { same = refl; port = λ pool at value. absurd (cc) })
+limited_comes May most UnbindsLost x n all =
+    inl (record { same = refl; port = λ pool at value. absurd (cc) })
 limited_comes May most GivesBackLost (Dropped d) n all =
     inl (record { same = refl; port = λ pool at value. absurd (cc) })
 limited_comes May most GivesBackLost (Free pool) n all = lost_comes most n pool (n.port == 0) refl
@@ -357,12 +370,18 @@ limited_comes May most GivesBackLost (Mapped es) n all =
     inl (record { same = refl; port = λ pool at value. absurd (cc) })
 limited_comes May most GivesBackLost (Taken bs) n all =
     inl (record { same = refl; port = λ pool at value. absurd (cc) })
-limited_comes May most FindsEndpoint x n all = inl (record { same = refl; port = λ pool at value. absurd (cc) })
-limited_comes May most AsksIfLives x n all = inl (record { same = refl; port = λ pool at value. absurd (cc) })
-limited_comes May most CountsDrop x n all = inl (record { same = refl; port = λ pool at value. absurd (cc) })
-limited_comes May most SendsOut x n all = inl (record { same = refl; port = λ pool at value. absurd (cc) })
-limited_comes May most Ends x n all = inl (record { same = refl; port = λ pool at value. absurd (cc) })
-limited_comes May most FindsPort x n all = inl (record { same = refl; port = λ pool at value. absurd (cc) })
+limited_comes May most FindsEndpoint x n all =
+    inl (record { same = refl; port = λ pool at value. absurd (cc) })
+limited_comes May most AsksIfLives x n all =
+    inl (record { same = refl; port = λ pool at value. absurd (cc) })
+limited_comes May most CountsDrop x n all =
+    inl (record { same = refl; port = λ pool at value. absurd (cc) })
+limited_comes May most SendsOut x n all =
+    inl (record { same = refl; port = λ pool at value. absurd (cc) })
+limited_comes May most Ends x n all =
+    inl (record { same = refl; port = λ pool at value. absurd (cc) })
+limited_comes May most FindsPort x n all =
+    inl (record { same = refl; port = λ pool at value. absurd (cc) })
 
 -- each touch
 pub touch_comes : (s : Settings) (v : ℕ) (limit : Option ℕ) (p : Place) (x : NatValue) (n : Noted) → Fits s v x

@@ -79,7 +79,8 @@ impl Noted {
 
     /// The port in hand is given up; this port is noted in its place.
     fn loses(self, port: u16) -> Goes
-        ensures { result ≡ goes UnbindsLost (record self { port = port; freed = source_key self }) }
+        ensures { result
+            ≡ goes UnbindsLost (record self { port = port; freed = source_key self }) }
     {
         let freed: Freed = self.source_key();
         Goes::to(
