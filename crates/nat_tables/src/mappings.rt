@@ -3,7 +3,7 @@ ghost use Rattle.nat_tables.specs.Forwards.{Forwards, slot_of, lives, find, find
 ghost use Rattle.nat_tables.specs.Forwards.{first_idle, idle_removed, without, mark, keep};
 ghost use Rattle.nat_tables.specs.Hosts.{count_of, is_full, first_idle_of, given_up};
 ghost use Rattle.nat_tables.specs.Hosts.{find_within, bind_within};
-ghost use Rattle.nat_tables.specs.HostCounts.{AreCounts, HasOneMore, HaveRoom};
+ghost use Rattle.nat_tables.specs.HostCounts.{AreCounts, HasOneMore};
 ghost use Rattle.nat_tables.specs.Shown.{mappings_text};
 
 use crate::host_counts::{Host, HostCounts};
@@ -36,7 +36,6 @@ impl Model for Mappings {
 
 /// Counts one mapping more of the endpoint's host, where counts are kept.
 fn raise(counts: &mut Option<HostCounts>, key: &Endpoint) -> Result<(), NoMemory>
-    requires { HaveRoom counts.old }
     ensures ok { OnOk result ((few many : Forwards) → HasOneMore key.now few many
         → AreCounts counts.old few → AreCounts counts.new many) }
     ensures err { OnErr result (counts.new ≡ counts.old) }
