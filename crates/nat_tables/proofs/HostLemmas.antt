@@ -1,16 +1,19 @@
 -- What hosts have after a mapping is made, changed or removed, and the counts of it.
 use Rattle.std.proofs.Common.{◌≡◌, ◌==◌, ℕ, zero, suc, ◌+◌, ◌-◌, Bool, true, false, List, [], ◌∷◌, ◌++◌, cond, drop}
-use Rattle.std.proofs.Common.{refl, sym, ap, subst, ◌∙◌, arith, Option, Some, None, length}
+use Rattle.std.proofs.Common.{refl, sym, ap, subst, ◌∙◌, arith, Option, Some, None}
 use Rattle.std.specs.Prelude.{◌&&◌, if◌then◌else◌}
 use Rattle.std.specs.Map.{lookup}
 use Rattle.std.proofs.lemmas.Bool.{eqb-true}
 use Rattle.nat_tables.specs.declared.entries.Endpoint.{Endpoint}
 use Rattle.nat_tables.specs.declared.slot.Slot.{Slot}
 use Rattle.nat_tables.specs.declared.phase.Segment.{Segment}
+use Rattle.nat_tables.specs.declared.phase.Phase.TheVariants.{Plain}
+use Rattle.nat_tables.specs.declared.entries.Bind.{Bind}
 use Rattle.nat_tables.specs.declared.host_counts.Host.{Host}
 use Rattle.nat_tables.specs.Keys.{same_endpoint}
 use Rattle.nat_tables.specs.Ports.{one_if}
 use Rattle.nat_tables.specs.Forwards.{Forwards, slot_of, refresh, mark, without, first_idle, without_idle, total}
+use Rattle.nat_tables.specs.Forwards.{idle_taken, find_or_bind, bound, keep, kept_by, kept_slot}
 use Rattle.nat_tables.specs.Hosts.{is_of_host, count_of, first_idle_of}
 use Rattle.nat_tables.specs.HostCounts.{same_host, counted, host_count, AreCounts, HasOneMore, row_is_of_host}
 use Rattle.nat_tables.specs.Rows.{present, row_at}
@@ -63,6 +66,18 @@ fewer_without_idle now idle es is protocol address =
         ≡ total (weight protocol address) es =
     total_without_idle (weight protocol address) now idle es is in omega arith
 
+pub fewer_taken : (now : ℕ) (idle : Endpoint × Slot) (es fs : Forwards)
+    → (Some idle, fs) ≡ idle_taken now es (first_idle now es) → HasOneMore idle.0 fs es
+fewer_taken now idle es fs is = by (first_idle now es) refl is
+  where
+    by : (found : Option (Endpoint × Slot)) → first_idle now es ≡ found → (Some idle, fs) ≡ idle_taken now es found
+        → HasOneMore idle.0 fs es
+    by None q t = absurd (let none = ap (λ (p : Option (Endpoint × Slot) × Forwards). p.0) t in cc)
+    by (Some e) q t =
+        let taken : Some idle ≡ Some e = ap (λ (p : Option (Endpoint × Slot) × Forwards). p.0) t in
+        let left : fs ≡ without_idle now es = ap (λ (p : Option (Endpoint × Slot) × Forwards). p.1) t in
+        rw left (fewer_without_idle now idle es (q ∙ sym taken))
+
 pub one_more : (key : Endpoint) (slot : Slot) (es : Forwards) → HasOneMore key es (es ++ (key, slot) ∷ [])
 one_more key slot es protocol address =
     let many = as_sum protocol address (es ++ (key, slot) ∷ []) in
@@ -70,6 +85,19 @@ one_more key slot es protocol address =
     let more : total (weight protocol address) (es ++ (key, slot) ∷ [])
         ≡ total (weight protocol address) es + one_if (is_of_host protocol address key) =
     total_append (weight protocol address) key slot es in omega arith
+
+pub bound_one_more : (key : Endpoint) (port now : ℕ) (es fs : Forwards) (bind : Bind) → slot_of key es ≡ None
+    → (bind, fs) ≡ find_or_bind key port now es → HasOneMore key es fs
+bound_one_more key port now es fs bind none is =
+    let new : fs ≡ es ++ (key, record { port = port; last = now; phase = Plain }) ∷ [] =
+    ap (λ (p : Bind × Forwards). p.1) (is ∙ ap (bound key port now es) none) in
+    rw new (one_more key _ es)
+
+pub kept_one_more : (key : Endpoint) (port : ℕ) (es fs : Forwards) → slot_of key es ≡ None → fs ≡ keep key port es
+    → HasOneMore key es fs
+kept_one_more key port es fs none is =
+    let new : fs ≡ es ++ (key, kept_slot port) ∷ [] = is ∙ ap (kept_by key port es) none in
+    rw new (one_more key _ es)
 
 -- a mapping that is not there is not removed
 pub not_without : (key : Endpoint) (es : Forwards) → slot_of key es ≡ None → es ≡ without key es
@@ -181,7 +209,3 @@ idle_next key now rows at =
     idle_on key now rows at
     ∙ ap (λ (n : ℕ). if row_is_of_host key (row_at rows at) && row_is_idle now (row_at rows at) then row_at rows at
     else first_idle_of key now (present (drop n rows))) next
-
-pub none_past : (rows : List (Option (Endpoint × Slot))) → present (drop (length rows) rows) ≡ []
-none_past [] = refl
-none_past (row ∷ rows) = none_past rows

@@ -12,4 +12,4 @@ returns-in-Some c =
     let written = c.get_mut.follows.holds new in
     rw (← c.self.view_is)
     (lowered c.self.inside.counts.entries (c.get_mut.follows.lender new).entries c.args.host (Some new)
-    (written.3 (rw (← there) ?)).0 less)
+    (written.3 (rw (← there) refl)).0 less)
