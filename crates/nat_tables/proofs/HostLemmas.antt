@@ -54,7 +54,7 @@ fewer_without key slot es is protocol address =
     let many = as_sum protocol address es in
     let few = as_sum protocol address (without key es) in
     let less : total (weight protocol address) (without key es) + one_if (is_of_host protocol address key)
-        ≡ total (weight protocol address) es =
+    ≡ total (weight protocol address) es =
     total_without (weight protocol address) key slot es is in omega arith
 
 pub fewer_without_idle : (now : ℕ) (idle : Endpoint × Slot) (es : Forwards) → first_idle now es ≡ Some idle
@@ -63,7 +63,7 @@ fewer_without_idle now idle es is protocol address =
     let many = as_sum protocol address es in
     let few = as_sum protocol address (without_idle now es) in
     let less : total (weight protocol address) (without_idle now es) + one_if (is_of_host protocol address idle.0)
-        ≡ total (weight protocol address) es =
+    ≡ total (weight protocol address) es =
     total_without_idle (weight protocol address) now idle es is in omega arith
 
 pub fewer_taken : (now : ℕ) (idle : Endpoint × Slot) (es fs : Forwards)
@@ -83,7 +83,7 @@ one_more key slot es protocol address =
     let many = as_sum protocol address (es ++ (key, slot) ∷ []) in
     let few = as_sum protocol address es in
     let more : total (weight protocol address) (es ++ (key, slot) ∷ [])
-        ≡ total (weight protocol address) es + one_if (is_of_host protocol address key) =
+    ≡ total (weight protocol address) es + one_if (is_of_host protocol address key) =
     total_append (weight protocol address) key slot es in omega arith
 
 pub bound_one_more : (key : Endpoint) (port now : ℕ) (es fs : Forwards) (bind : Bind) → slot_of key es ≡ None
