@@ -12,8 +12,8 @@ use plain_text::{NoMemory, Text};
 use std::alloc::Global;
 use std::marker::Model;
 
-/// A forward table that may limit the mappings of a host, which are those of an inside address and a protocol (RFC 6888,
-/// REQ-4). Contracts see the list of the endpoints with their slots.
+/// A forward table that may limit the mappings of a host, which are those of an inside address and a protocol (RFC
+/// 6888, REQ-4). Contracts see the list of the endpoints with their slots.
 #[derive(Debug, Drop)]
 pub struct Mappings {
     table: Forward,

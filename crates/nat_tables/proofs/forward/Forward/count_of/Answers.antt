@@ -1,4 +1,4 @@
-use Rattle.std.proofs.Common.{◌≡◌, ◌+◌, ◌∙◌, sym, true, false, arith}
+use Rattle.std.proofs.Common.{◌≡◌, ◌∙◌, sym, true, false, arith}
 use Rattle.nat_tables.specs.HostCounts.{row_is_of_host}
 use Rattle.nat_tables.specs.Rows.{row_at}
 use Rattle.nat_tables.proofs.HostLemmas.{counted_next}

@@ -1,4 +1,4 @@
-use Rattle.std.proofs.Common.{◌∙◌, sym, arith}
+use Rattle.std.proofs.Common.{sym}
 use Rattle.nat_tables.proofs.HostLemmas.{fewer_without, not_without}
 use Rattle.nat_tables.proofs.mappings.Mappings.remove.Goals as goal
 

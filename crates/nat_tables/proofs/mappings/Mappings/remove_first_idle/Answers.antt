@@ -1,5 +1,4 @@
 use Rattle.std.proofs.Common.{◌∙◌, ap, sym}
-use Rattle.nat_tables.specs.Forwards.{first_idle, idle_taken}
 use Rattle.nat_tables.proofs.HostLemmas.{fewer_taken}
 use Rattle.nat_tables.proofs.mappings.Mappings.remove_first_idle.Goals as goal
 
