@@ -47,7 +47,8 @@ NoneFollowedWithoutIt =
     (slot : Slot) → AreSettings s → IsHistory (nat_meaning s) inputs threads steps → s.closing ≡ None
     → IsMapping s (value_after (nat_meaning s) steps) v (key, slot) → (slot.phase ≡ Plain) ⊎ (slot.phase ≡ Kept)
 
--- and then each touch is the one of the table of moves alone, and a packet begins with no segment noted
+-- and then each touch is the one of the table of moves, or of the limit, alone, and a packet begins with no segment
+-- noted
 abbrev pub TouchesAsBefore : Type 0
 TouchesAsBefore =
     (s : Settings) → s.closing ≡ None → (v : ℕ) (x : NatValue) (l : Local)
