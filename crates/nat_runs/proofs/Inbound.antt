@@ -70,8 +70,8 @@ module _ (s : Settings) (is : AreSettings s) (packets : List Packet) (value : �
       let it : var_of s (at h) (noted h.place) ≡ w = touches_it s (at h) (noted h.place) w move in
       let none : w ≡ 0 = sym it ∙ zero_at in
       let other : nat_eq w v ≡ false = not_eq w v (λ q. absurd (omega arith)) in
-      ap
-      (λ (b : Bool). cond b (followed s (noted h.place) (touched_by s.limit (at h) (value w) (noted h.place)).0) (value v)) other
+      ap (λ (b : Bool).
+      cond b (followed s (noted h.place) (touched_by s.limit (at h) (value w) (noted h.place)).0) (value v)) other
 
   pub move_keeps : (after : Thread) (d : Effect NatValue) (hand : Option Hand) (a : Option ℕ)
       → held_move (nat_meaning s) packets value taken a hand ≡ Moves after d → Keeps hand after.hand d

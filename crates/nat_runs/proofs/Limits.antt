@@ -1,6 +1,7 @@
 -- No host has more mappings than it may have.
-use Rattle.std.proofs.Common.{◌≡◌, ◌≢◌, ℕ, ◌+◌, ◌*◌, ◌%◌, ◌<◌, ◌≤◌, Bool, true, false, List, [], ◌∷◌, refl, sym, ap, ◌∙◌}
-use Rattle.std.proofs.Common.{subst, arith, Option, Some, None}
+use Rattle.std.proofs.Common.{◌≡◌, ◌≢◌, ℕ, ◌+◌, ◌*◌, ◌%◌, ◌<◌, ◌≤◌, Bool, true, false, List, [], ◌∷◌, refl, sym, ap}
+use Rattle.std.proofs.Common.{◌∙◌}
+use Rattle.std.proofs.Common.{subst, arith, Option, Some}
 use Rattle.std.specs.Prelude.{◌==◌, ◌&&◌, nat_lt, max, if◌then◌else◌}
 use Rattle.std.proofs.lemmas.Bool.{eqb-true}
 use Rattle.std.proofs.lemmas.Bool.Decides.{nat_tests}
@@ -9,7 +10,6 @@ use Rattle.entry_order.proofs.Weights.{sum_below_same}
 use Rattle.plain_machine.specs.History.{value_after}
 use Rattle.plain_machine.proofs.Bounds.{values_fit}
 use Rattle.nat_tables.specs.declared.entries.Endpoint.{Endpoint}
-use Rattle.nat_tables.specs.declared.slot.Slot.{Slot}
 use Rattle.nat_tables.specs.Forwards.{Forwards, AreMappings}
 use Rattle.nat_tables.specs.Hosts.{is_of_host, count_of}
 use Rattle.flow_boxes.proofs.Summing.{one_term}
@@ -20,7 +20,7 @@ use Rattle.nat_box.specs.Places.{place_numbered, noted}
 use Rattle.nat_box.specs.Statics.{inside_of, kept}
 use Rattle.nat_box.specs.Nat.{Settings, table_sum, forward_table, kept_mappings, touched_by, followed, local_at}
 use Rattle.nat_box.specs.Nat.{nat_meaning, MayMap, AreWithin, Fits}
-use Rattle.nat_box.specs.Lawful.{AreSettings, nat_lawful}
+use Rattle.nat_box.specs.Lawful.{nat_lawful}
 use Rattle.nat_box.specs.Sentences.{mappings_in}
 use Rattle.nat_runs.specs.Limits.{mappings_of, statics_of, HostsKeepWithin, TouchesWithoutLimit, TablesWithoutLimit}
 

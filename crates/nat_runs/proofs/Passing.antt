@@ -35,7 +35,8 @@ use Rattle.nat_box.specs.Places.{noted, dest_key}
 use Rattle.nat_box.specs.declared.place.Goes.{Goes}
 use Rattle.nat_box.specs.declared.seeing.Seen.{Seen}
 use Rattle.flow_boxes.specs.Drops.{with_drop}
-use Rattle.nat_box.specs.Nat.{Settings, goes, seen_by, flow_in, class_in, begun_by, begun, mapped, after_find, after_reserve}
+use Rattle.nat_box.specs.Nat.{Settings, goes, seen_by, flow_in, class_in, begun_by, begun, mapped, after_find}
+use Rattle.nat_box.specs.Nat.{after_reserve}
 use Rattle.nat_box.specs.Nat.{after_bind, used_port, after_port}
 use Rattle.nat_box.specs.Nat.{dropped, over_limit, after_find_within, after_bind_within, after_lost, touched_by}
 use Rattle.nat_box.specs.Nat.{followed, after_endpoint, looked_by, looked, after_time, told, nat_meaning}
@@ -245,7 +246,8 @@ module _ (s : Settings) (is : AreSettings s) (packets : List Packet) (value : �
       by : (w ≡ 0) ⊎ (w ≢ 0) → Sums after (cond (nat_eq w 0) left (value 0)) (value 0) (waits_at (at h))
       by (inl q) =
           let long : AreTen (value w) = subst (λ (u : ℕ). AreTen (value u)) (sym q) ten in
-          let sums : Sums after left (value w) (waits_at (at h)) = at_count h (at h) (value w) s.limit kind (it ∙ q) long k in
+          let sums : Sums after left (value w) (waits_at (at h)) =
+          at_count h (at h) (value w) s.limit kind (it ∙ q) long k in
           subst (λ (b : Bool). Sums after (cond b left (value 0)) (value 0) (waits_at (at h))) (sym (is_eq w 0 q))
           (subst (λ (u : ℕ). Sums after left (value u) (waits_at (at h))) q sums)
       by (inr q) =

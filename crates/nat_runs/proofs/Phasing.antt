@@ -237,7 +237,8 @@ module _ (s : Settings) (m : Met) (p : Packet) (e : Endpoint × Slot) where
       now_of n es k (followed_now (MayMap s v) s.closing n es (find_within most n.source n.time es).1 e fits.2
       (by_find most n.source n.time es
       (λ (r : Find × Forwards). (x : Endpoint × Slot) → Has r.1 x → IsOld n.source es x)
-      (λ x there. found_old n.source n.time es a b x there) (λ gone none q x there. inl (without_was gone.0 es x there))) h)
+      (λ x there. found_old n.source n.time es a b x there)
+      (λ gone none q x there. inl (without_was gone.0 es x there))) h)
   touch_now v _ _ n None (unbinds_freed bs) fits k h = absurd h
   touch_now v _ _ n (Some most) (unbinds_freed bs) fits k h = absurd h
   touch_now v _ _ n None (gives_freed pool) fits k h = absurd h
@@ -279,8 +280,8 @@ module _ (s : Settings) (is : AreSettings s) (packets : List Packet) (value : �
       Known s m before → Has (mappings_in (left_by v (act_of t earlier taken_then d) (value v))) e → Follows before
 
   at_touch : (h : Hand) (w : ℕ) → comes_to s h (Access w) → Known s m (Some h)
-      → Has (mappings_in
-      (cond (nat_eq w v) (followed s (noted h.place) (touched_by s.limit (at h) (value w) (noted h.place)).0) (value v))) e
+      → Has (mappings_in (cond (nat_eq w v)
+      (followed s (noted h.place) (touched_by s.limit (at h) (value w) (noted h.place)).0) (value v))) e
       → Follows (Some h)
   at_touch h w move k there = by (is_or w v)
     where

@@ -158,8 +158,8 @@ module _ (s : Settings) (is : AreSettings s) (packets : List Packet) (value : �
         ⊎ ((h : Hand) × (before ≡ Some h) × (AreBytes h.packet.bytes → ComesFrom s e.0 h.packet))
 
     at_touch : (h : Hand) (w : ℕ) → comes_to s h (Access w) → Known s m (Some h)
-        → Has (mappings_in
-        (cond (nat_eq w v) (followed s (noted h.place) (touched_by s.limit (at h) (value w) (noted h.place)).0) (value v))) e
+        → Has (mappings_in (cond (nat_eq w v)
+        (followed s (noted h.place) (touched_by s.limit (at h) (value w) (noted h.place)).0) (value v))) e
         → Has (mappings_in (value v)) e
         ⊎ ((g : Hand) × (Some h ≡ Some g) × (AreBytes g.packet.bytes → ComesFrom s e.0 g.packet))
     at_touch h w move k there = by (is_or w v)

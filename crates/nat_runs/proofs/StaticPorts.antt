@@ -180,7 +180,8 @@ module _ (s : Settings) (is : AreSettings s) (v : ℕ) (past : 2 + 2 * s.shards 
       move
     where
       other : (h : Hand) (w : ℕ) → comes_to s h (Access w)
-          → cond (nat_eq w v) (followed s (noted h.place) (touched_by s.limit (at h) (value w) (noted h.place)).0) (value v)
+          → cond (nat_eq w v)
+          (followed s (noted h.place) (touched_by s.limit (at h) (value w) (noted h.place)).0) (value v)
           ≡ value v
       other h w c =
           let below = touched_below s is h w c in

@@ -48,7 +48,8 @@ use Rattle.nat_box.specs.Noting.{place_again}
 use Rattle.nat_box.specs.Statics.{inside_of, outside_of, static_port, kept, outside_ports, IsStatic}
 use Rattle.nat_box.specs.Nat.{Settings, forward_table, reverse_table, flow_seen, class_seen, begun_by, mapped}
 use Rattle.nat_box.specs.Nat.{after_find}
-use Rattle.nat_box.specs.Nat.{after_find_within, touched_by, followed, looked, told, after_time, local_at, nat_meaning, kept_mappings}
+use Rattle.nat_box.specs.Nat.{after_find_within, touched_by, followed, looked, told, after_time, local_at, nat_meaning}
+use Rattle.nat_box.specs.Nat.{kept_mappings}
 use Rattle.nat_box.specs.Nat.{kept_bound, Fits}
 use Rattle.nat_box.specs.Lawful.{AreSettings, var_of, touches_it, nat_lawful}
 use Rattle.nat_box.specs.Sentences.{Has, mappings_in, bound_in}
@@ -256,7 +257,8 @@ module _ (s : Settings) (p : StaticPort) (static : IsStatic p (kept s.statics)) 
       move_never after d hand a move =
           by_move s packets value taken Never (λ packet input. tt)
           (λ h w c straight to e.
-          never_touch h w (followed s (noted h.place) (touched_by s.limit (at h) (value w) (noted h.place)).0) c straight to e)
+          never_touch h w (followed s (noted h.place) (touched_by s.limit (at h) (value w) (noted h.place)).0) c
+          straight to e)
           (λ h w c straight to e.
           not_read w (places w (log_of earlier)) (what_of (WasRead w (places w (log_of earlier))) e))
           (λ h x c straight to e. not_heard x (what_of (Heard x) e))

@@ -72,13 +72,14 @@ module _ (m : Met) (e : Endpoint × Slot) where
         found_keeps None None q = unchanged (Mapped es) h
 
         -- a host gives up a mapping that is idle
-        gives_keeps : (gone : Endpoint × Slot) → first_idle_of key now es ≡ Some gone → Kept (Mapped (without gone.0 es))
+        gives_keeps : (gone : Endpoint × Slot) → first_idle_of key now es ≡ Some gone
+            → Kept (Mapped (without gone.0 es))
         gives_keeps gone q =
             let is = idle_of_host key now es gone q in
             stays_or _ _
             (λ same. subst (λ (z : Endpoint × Slot). IsIdle now z.0 z.1)
-            (own_slot May gone.0 gone.1 es e all h (slot_there May es gone.0 gone.1 all is.0) same) (idle_is now gone is.1))
-            (left_without May gone.0 es e all h)
+            (own_slot May gone.0 gone.1 es e all h (slot_there May es gone.0 gone.1 all is.0) same)
+            (idle_is now gone is.1)) (left_without May gone.0 es e all h)
 
         bound_keeps : (port : ℕ) (a : Option Slot) → Kept (Mapped (bound key port now es a).1)
         bound_keeps port (Some slot) = stays _ (refreshed_in key now es e h)
@@ -134,7 +135,8 @@ module _ (s : Settings) (is : AreSettings s) (packets : List Packet) (value : �
   Keeps before after d = Known s m before → Kept m e (left_by v (act_of t earlier taken_then d) (value v))
 
   at_touch : (h : Hand) (w : ℕ) → comes_to s h (Access w) → Known s m (Some h)
-      → Kept m e (cond (nat_eq w v) (followed s (noted h.place) (touched_by s.limit (at h) (value w) (noted h.place)).0) (value v))
+      → Kept m e (cond (nat_eq w v)
+      (followed s (noted h.place) (touched_by s.limit (at h) (value w) (noted h.place)).0) (value v))
   at_touch h w move k = by (is_or w v)
     where
       left : NatValue

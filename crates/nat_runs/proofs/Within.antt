@@ -1,5 +1,5 @@
 -- What a find, and a find-or-bind, come to where hosts have a limit; and the ports of mappings, none of which is 0.
-use Rattle.std.proofs.Common.{◌≡◌, ℕ, ◌+◌, ◌*◌, ◌<◌, ◌≤◌, Bool, true, false, List, [], ◌∷◌, refl, sym, ap, ◌∙◌, subst}
+use Rattle.std.proofs.Common.{◌≡◌, ℕ, ◌+◌, ◌*◌, ◌≤◌, Bool, true, false, List, [], ◌∷◌, refl, sym, ap, ◌∙◌, subst}
 use Rattle.std.proofs.Common.{inl, inr, arith, Option, Some, None}
 use Rattle.std.specs.Prelude.{◌==◌, ◌&&◌, not, nat_lt, if◌then◌else◌}
 use Rattle.std.proofs.lemmas.Bool.Decides.{nat_tests}
@@ -10,9 +10,9 @@ use Rattle.nat_tables.specs.declared.entries.PortKey.{PortKey}
 use Rattle.nat_tables.specs.declared.slot.Slot.{Slot}
 use Rattle.nat_tables.specs.declared.phase.Segment.{Segment}
 use Rattle.nat_tables.specs.declared.entries.Find.{Find}
-use Rattle.nat_tables.specs.declared.entries.Find.TheVariants.{Live, Absent}
+use Rattle.nat_tables.specs.declared.entries.Find.TheVariants.{Absent}
 use Rattle.nat_tables.specs.declared.entries.Bind.{Bind}
-use Rattle.nat_tables.specs.Keys.{same_endpoint, same_port}
+use Rattle.nat_tables.specs.Keys.{same_endpoint}
 use Rattle.nat_tables.specs.Ports.{one_if, of_range, has_port, has_protocol}
 use Rattle.nat_tables.specs.Forwards.{Forwards, is_idle, port_of, slot_of, without, found_there, found, find}
 use Rattle.nat_tables.specs.Forwards.{find_or_bind, marked, mark, total}
@@ -21,7 +21,7 @@ use Rattle.nat_tables.specs.Hosts.{bound_within, bind_within}
 use Rattle.nat_box.specs.declared.place.Noted.{Noted}
 use Rattle.nat_box.specs.declared.value.NatValue.{NatValue}
 use Rattle.nat_box.specs.declared.value.NatValue.TheVariants.{Dropped, Free, Mapped, Taken}
-use Rattle.nat_box.specs.Statics.{kept, outside_of, outside_ports}
+use Rattle.nat_box.specs.Statics.{kept, outside_ports}
 use Rattle.nat_box.specs.StaticLaws.{kept_whole, of_whole}
 use Rattle.nat_box.specs.Nat.{Settings, followed_by, nat_meaning}
 use Rattle.nat_box.specs.Lawful.{AreSettings}

@@ -36,8 +36,8 @@ pub fn mappings_stay_until_idle()
 /// Each mapping whose connection is followed is of TCP, and has the box's number of seconds (`by_the_line`). Where the
 /// box has none, no connection is followed, so each mapping is kept as its protocol says, or for good
 /// (`none_without_it`); each touch is that of the table of moves, or of the limit, alone (`touches`), and no segment is
-/// noted (`begins`). The phase of a mapping
-/// changes by a packet from its own inside endpoint alone, and as the control bits of this packet say (`hosts`).
+/// noted (`begins`). The phase of a mapping changes by a packet from its own inside endpoint alone, and as the control
+/// bits of this packet say (`hosts`).
 pub fn connections_are_followed_by_the_line()
     ensures by_the_line { FollowedByTheLine }
     ensures none_without_it { NoneFollowedWithoutIt }
