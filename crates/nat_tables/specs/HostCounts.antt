@@ -1,5 +1,5 @@
 -- Counts of the mappings of hosts, by protocol.
-use Rattle.std.specs.Prelude.{◌≡◌, ℕ, ◌+◌, ◌^◌, ◌<◌, Bool, false, ◌&&◌, ◌==◌, List, Option, Some, None}
+use Rattle.std.specs.Prelude.{◌≡◌, ℕ, ◌+◌, Bool, false, ◌&&◌, ◌==◌, List, Option, Some, None}
 use Rattle.std.specs.Map.{lookup}
 use Rattle.nat_tables.specs.declared.entries.Endpoint.{Endpoint}
 use Rattle.nat_tables.specs.declared.slot.Slot.{Slot}
@@ -32,11 +32,6 @@ abbrev pub HasOneMore : Endpoint → Forwards → Forwards → Type 0
 HasOneMore key few many =
     (protocol address : ℕ)
     → count_of protocol address many ≡ one_if (is_of_host protocol address key) + count_of protocol address few
-
--- one more can be counted of each host
-abbrev pub HaveRoom : Option (List (Host × ℕ)) → Type 0
-HaveRoom None = Unit {0}
-HaveRoom (Some counts) = (host : Host) → host_count host counts < 2 ^ 63
 
 abbrev pub row_is_of_host : Endpoint → Option (Endpoint × Slot) → Bool
 row_is_of_host key None = false

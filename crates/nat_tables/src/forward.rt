@@ -301,8 +301,7 @@ impl Forward {
 
     /// How many mappings there are, idle ones included.
     pub fn len(&self) -> usize
-        ensures count { result ≡ length self.now }
-        ensures fits { result < 2 ^ 63 }
+        ensures { result ≡ length self.now }
     {
         self.slots.len()
     }

@@ -1,4 +1,4 @@
-ghost use Rattle.std.specs.Prelude.{◌≡◌, ℕ, ◌+◌, ◌-◌, ◌^◌, ◌<◌, [], IfOk, OnOk, OnErr};
+ghost use Rattle.std.specs.Prelude.{◌≡◌, ◌+◌, ◌-◌, [], IfOk, OnOk, OnErr};
 ghost use Rattle.nat_tables.specs.declared.host_counts.Host.{Host};
 ghost use Rattle.nat_tables.specs.HostCounts.{host_of, same_host, host_count};
 ghost use Rattle.nat_tables.specs.Ports.{one_if};
@@ -60,15 +60,16 @@ impl HostCounts {
         self.counts.get(&host).copied().unwrap_or(0)
     }
 
-    /// Counts one more of the host.
+    /// Counts one more of the host. No memory has room for more mappings than a count can say.
     pub(crate) fn raise(&mut self, host: Host) -> Result<(), NoMemory>
-        requires { host_count host self.old < 2 ^ 63 }
         ensures ok { OnOk result ((other : Host) → host_count other self.new
             ≡ one_if (same_host host other) + host_count other self.old) }
         ensures err { OnErr result (self.new ≡ self.old) }
     {
-        let count = self.count(host);
-        self.counts.insert(host, count + 1)?;
+        let Some(count) = self.count(host).checked_add(1) else {
+            return Err(NoMemory);
+        };
+        self.counts.insert(host, count)?;
         Ok(())
     }
 

@@ -3,7 +3,7 @@ ghost use Rattle.nat_tables.specs.Forwards.{Forwards, slot_of, lives, find, find
 ghost use Rattle.nat_tables.specs.Forwards.{first_idle, idle_removed, without, mark, keep};
 ghost use Rattle.nat_tables.specs.Hosts.{count_of, is_full, first_idle_of, given_up};
 ghost use Rattle.nat_tables.specs.Hosts.{find_within, bind_within};
-ghost use Rattle.nat_tables.specs.HostCounts.{AreCounts, HasOneMore, HaveRoom};
+ghost use Rattle.nat_tables.specs.HostCounts.{AreCounts, HasOneMore};
 ghost use Rattle.nat_tables.specs.Shown.{mappings_text};
 
 use crate::host_counts::{Host, HostCounts};
@@ -12,8 +12,8 @@ use plain_text::{NoMemory, Text};
 use std::alloc::Global;
 use std::marker::Model;
 
-/// A forward table that may limit the mappings of a host, which are those of an inside address and a protocol (RFC 6888,
-/// REQ-4). Contracts see the list of the endpoints with their slots.
+/// A forward table that may limit the mappings of a host, which are those of an inside address and a protocol (RFC
+/// 6888, REQ-4). Contracts see the list of the endpoints with their slots.
 #[derive(Debug, Drop)]
 pub struct Mappings {
     table: Forward,
@@ -36,7 +36,6 @@ impl Model for Mappings {
 
 /// Counts one mapping more of the endpoint's host, where counts are kept.
 fn raise(counts: &mut Option<HostCounts>, key: &Endpoint) -> Result<(), NoMemory>
-    requires { HaveRoom counts.old }
     ensures ok { OnOk result ((few many : Forwards) → HasOneMore key.now few many
         → AreCounts counts.old few → AreCounts counts.new many) }
     ensures err { OnErr result (counts.new ≡ counts.old) }
