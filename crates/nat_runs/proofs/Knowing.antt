@@ -56,7 +56,7 @@ use Rattle.nat_box.specs.Noting.{place_again, class_again, segment_again, IsNote
 use Rattle.nat_box.specs.Lawful.{AreSettings, var_of, touches_it, reads_it, nat_lawful}
 use Rattle.nat_box.specs.PortStanding.{free_at}
 use Rattle.nat_box.specs.Sentences.{Has, mappings_in, bound_in, IsMapping}
-use Rattle.nat_box.proofs.Noting.{touch_noted}
+use Rattle.nat_box.proofs.Noting.{touched_noted}
 use Rattle.nat_box.proofs.Making.{goes_on}
 use Rattle.nat_box.proofs.Following.{slot_followed}
 use Rattle.nat_runs.specs.Classes.{IsFromInside, GoesInside}
@@ -847,7 +847,7 @@ module _ (s : Settings) (is : AreSettings s) (packets : List Packet) (value : â„
       let below = touched_below s is h v w in
       let r = touched_by s.limit (at h) (value v) (noted h.place) in
       known_on s (met_by_touch value (value v) (Some (followed s (noted h.place) r.0)) m) h r.1
-      (touch_noted s (at h) (value v) (noted h.place) v (is_noted h.place) (fits v below))
+      (touched_noted s (at h) (value v) (noted h.place) v (is_noted h.place) (fits v below))
       (touch_known s h.packet value fits ports m v (at h) (value v) (noted h.place) s.limit refl refl below
       (touch_kind s is.some (noted h.place) v (value v) (fits v below) (at h) w)
       (touches_it s (at h) (noted h.place) v w) k))
