@@ -1,6 +1,7 @@
 -- The box that gives inside endpoints ports of one outside address (RFC 3022). Variable 0 counts drops by reason,
 -- variable 1 is the pool of free ports, the next S variables are the forward tables, and the next S the reverse tables.
-use Rattle.std.specs.Prelude.{◌≡◌, ℕ, ◌+◌, ◌-◌, ◌*◌, ◌/◌, ◌%◌, ◌^◌, ◌<◌, ◌≤◌, Bool, true, false, ◌==◌, nat_lt, not}
+use Rattle.std.specs.Prelude.{◌≡◌, ℕ, ◌+◌, ◌-◌, ◌*◌, ◌/◌, ◌%◌, ◌^◌, ◌<◌, ◌≤◌, max, Bool, true, false, ◌==◌, nat_lt}
+use Rattle.std.specs.Prelude.{not}
 use Rattle.std.specs.Prelude.{if◌then◌else◌, bit_and, List, [], ◌∷◌, Option, Some, None, Result}
 use Rattle.std.specs.Prelude.{Ok, Err}
 use Rattle.packet_headers.specs.declared.flow.Flow.{Flow}
@@ -32,6 +33,7 @@ use Rattle.nat_tables.specs.declared.phase.Segment.{Segment}
 use Rattle.nat_tables.specs.declared.phase.Segment.TheVariants.{Silent, Opens, Carries, Closes}
 use Rattle.nat_tables.specs.Forwards.{Forwards, is_idle, slot_of, find, find_or_bind, lives, mark, AreMappings}
 use Rattle.nat_tables.specs.Forwards.{kept_slot, HasKept}
+use Rattle.nat_tables.specs.Hosts.{count_of, is_full, find_within, bind_within}
 use Rattle.nat_tables.specs.Reverses.{Reverses, endpoint_of, bind, unbind, AreBound}
 use Rattle.nat_box.specs.declared.nat.StaticPort.{StaticPort}
 use Rattle.nat_box.specs.declared.place.Place.{Place}
@@ -69,12 +71,20 @@ pub record Settings : Type 0 where
   pub statics : List StaticPort
   -- errors of ICMP go through
   pub errors : Bool
+  -- how many mappings of a protocol an inside host has at most (RFC 6888, REQ-4); where there is none, as many as there
+  -- are ports
+  pub limit : Option ℕ
 
 abbrev pub goes : Place → Noted → Goes
 goes place n = record { place = place; noted = n }
 
+-- Where hosts have a limit, all mappings of a host and a protocol are in one table.
+abbrev pub table_sum : Option ℕ → Endpoint → ℕ
+table_sum None key = key.protocol + key.address + key.port
+table_sum (Some most) key = key.protocol + key.address
+
 abbrev pub forward_table : Settings → Endpoint → ℕ
-forward_table s key = 2 + (key.protocol + key.address + key.port) % s.shards
+forward_table s key = 2 + table_sum s.limit key % s.shards
 
 abbrev pub reverse_table : Settings → PortKey → ℕ
 reverse_table s key = 2 + s.shards + key.port % s.shards
@@ -124,6 +134,9 @@ no_mapping = 7
 
 abbrev pub no_free_port : ℕ
 no_free_port = 8
+
+abbrev pub over_limit : ℕ
+over_limit = 10
 
 abbrev pub is_inside : Settings → ℕ → Bool
 is_inside s address = address / 2 ^ (32 - s.length) == s.inside / 2 ^ (32 - s.length)
@@ -288,6 +301,37 @@ touched GivesBackLost (Free pool) n = (Free (give_back n.freed.protocol n.freed.
 touched CountsDrop (Dropped d) n = (Dropped (with_drop n.word d), goes Ends n)
 touched _ x n = (x, goes Ends n)
 
+-- Where each host has at most so many mappings, a packet whose source has none, and whose host has as many as it may
+-- have, is dropped: when it finds that, or when another packet was quicker. Its port is given back then, and it has
+-- port 0 meanwhile, which is no port of a mapping.
+
+abbrev pub after_find_within : ℕ → Noted → Find → Forwards → Goes
+after_find_within most n (Live port) es = after_find n (Live port)
+after_find_within most n (Absent (Some freed)) es = after_find n (Absent (Some freed))
+after_find_within most n (Absent None) es = if is_full most n.source es then dropped n over_limit else goes DrawsWord n
+
+abbrev pub after_bind_within : Noted → Option Bind → Goes
+after_bind_within n (Some bind) = after_bind n bind
+after_bind_within n None = goes UnbindsLost (record n { port = 0; freed = source_key n })
+
+abbrev pub after_lost : Noted → Bool → Goes
+after_lost n true = dropped n over_limit
+after_lost n false = mapped n n.class
+
+-- the touches that differ, and all others
+abbrev pub limited : ℕ → Place → NatValue → Noted → NatValue × Goes
+limited most FindsMapping (Mapped es) n =
+    let r = find_within most n.source n.time es in (Mapped r.1, after_find_within most n r.0 r.1)
+limited most FindsOrBinds (Mapped es) n =
+    let r = bind_within most n.source n.port n.time es in (Mapped r.1, after_bind_within n r.0)
+limited most GivesBackLost (Free pool) n =
+    (Free (give_back n.freed.protocol n.freed.port pool), after_lost n (n.port == 0))
+limited most p x n = touched p x n
+
+abbrev pub touched_by : Option ℕ → Place → NatValue → Noted → NatValue × Goes
+touched_by None p x n = touched p x n
+touched_by (Some most) p x n = limited most p x n
+
 -- The mapping of a packet's source in a forward table that it touched. It notes the packet's segment where connections
 -- are followed and it is of TCP, which is protocol 6 (RFC 5382, REQ-5).
 abbrev pub followed_by : Option ℕ → Noted → Forwards → Forwards
@@ -397,7 +441,8 @@ nat_meaning s = record {
   fresh = fresh_value s;
   begin = λ p. local_at (begun s (seen_by s p));
   next = λ l. next_move s (place_numbered l.at) (noted l);
-  touch = λ _ x l. let r = touched (place_numbered l.at) x (noted l) in (followed s (noted l) r.0, local_at r.1);
+  touch = λ _ x l.
+      let r = touched_by s.limit (place_numbered l.at) x (noted l) in (followed s (noted l) r.0, local_at r.1);
   look = λ _ x l. local_at (looked (place_numbered l.at) x (noted l));
   told = λ a l. local_at (told (place_numbered l.at) a (noted l));
   emitted = λ l. local_at (goes Ends (noted l));
@@ -432,11 +477,20 @@ HaveKept s v es =
     (p : StaticPort) → IsStatic p (kept s.statics) → v ≡ forward_table s (inside_of p)
     → HasKept (inside_of p) p.outside es
 
+-- Where hosts have a limit, none has more mappings of a protocol in the table than it may have, or than it has static
+-- ports there.
+abbrev pub AreWithin : Option ℕ → List (Endpoint × Slot) → Forwards → Type 0
+AreWithin None statics es = Unit {0}
+AreWithin (Some most) statics es =
+    (protocol address : ℕ) → count_of protocol address es ≤ max most (count_of protocol address statics)
+
 abbrev pub MayBind : Settings → ℕ → PortKey → Endpoint → Type 0
 MayBind s v port key = (v ≡ reverse_table s port) × (key.address < 2 ^ 32) × (key.port < 2 ^ 16)
 
 abbrev pub Fits : Settings → ℕ → NatValue → Type 0
 Fits s v (Dropped d) = v ≡ 0
 Fits s v (Free pool) = (v ≡ 1) × (pool.low ≡ s.low) × (pool.high ≡ s.high) × ArePorts pool
-Fits s v (Mapped es) = (2 ≤ v) × (v < 2 + s.shards) × AreMappings (MayMap s v) es × HaveKept s v es
+Fits s v (Mapped es) =
+    (2 ≤ v) × (v < 2 + s.shards) × AreMappings (MayMap s v) es × HaveKept s v es
+    × AreWithin s.limit (kept_mappings s v (kept s.statics)) es
 Fits s v (Taken bs) = (2 + s.shards ≤ v) × AreBound (MayBind s v) bs

@@ -16,7 +16,7 @@ use Rattle.nat_box.specs.declared.place.Noted.{Noted}
 use Rattle.nat_box.specs.declared.value.NatValue.{NatValue}
 use Rattle.nat_box.specs.declared.value.NatValue.TheVariants.{Dropped, Free, Mapped, Taken}
 use Rattle.nat_box.specs.Places.{place_numbered, noted}
-use Rattle.nat_box.specs.Nat.{Settings, flow_in, class_in, segment_told, begun_by, touched, followed_by}
+use Rattle.nat_box.specs.Nat.{Settings, flow_in, class_in, segment_told, begun_by, touched_by, followed_by}
 use Rattle.nat_box.specs.Nat.{followed}
 use Rattle.nat_box.specs.Nat.{local_at, nat_meaning, HasPhase, MayMap, Fits}
 use Rattle.nat_box.specs.Lawful.{nat_lawful}
@@ -73,7 +73,7 @@ not_followed s n (Taken bs) none = refl
 
 pub touches_as_before : TouchesAsBefore
 touches_as_before s none v x l =
-    let r = touched (place_numbered l.at) x (noted l) in
+    let r = touched_by s.limit (place_numbered l.at) x (noted l) in
     ap (λ (left : NatValue). (left, local_at r.1)) (not_followed s (noted l) r.0 none)
 
 pub begins_as_before : BeginsAsBefore

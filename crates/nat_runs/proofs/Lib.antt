@@ -1,5 +1,6 @@
 pub mod TableEntries
 pub mod MarkedEntries
+pub mod Within
 pub mod ThreadMoves
 pub mod Knowing
 pub mod Staying
@@ -13,4 +14,5 @@ pub mod Refreshing
 pub mod StaticPorts
 pub mod StaticSources
 pub mod Errors
+pub mod Limits
 pub mod Phasing

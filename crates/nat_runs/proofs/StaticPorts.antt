@@ -35,7 +35,7 @@ use Rattle.nat_box.specs.Places.{noted}
 use Rattle.nat_box.specs.Statics.{inside_of, outside_of, static_port, kept, outside_ports, IsStatic}
 use Rattle.nat_box.specs.StaticLaws.{fresh_bound}
 use Rattle.nat_box.specs.Nat.{Settings, flow_seen, forward_table, reverse_table, kept_mappings, kept_bound}
-use Rattle.nat_box.specs.Nat.{fresh_value, touched, followed, nat_meaning, MayMap, MayBind, Fits}
+use Rattle.nat_box.specs.Nat.{fresh_value, touched_by, followed, nat_meaning, MayMap, MayBind, Fits}
 use Rattle.nat_box.specs.Lawful.{AreSettings, nat_lawful}
 use Rattle.nat_box.specs.Sentences.{Has, mappings_in, bound_in, IsMapping}
 use Rattle.nat_box.proofs.Making.{comes_to}
@@ -180,7 +180,8 @@ module _ (s : Settings) (is : AreSettings s) (v : ℕ) (past : 2 + 2 * s.shards 
       move
     where
       other : (h : Hand) (w : ℕ) → comes_to s h (Access w)
-          → cond (nat_eq w v) (followed s (noted h.place) (touched (at h) (value w) (noted h.place)).0) (value v)
+          → cond (nat_eq w v)
+          (followed s (noted h.place) (touched_by s.limit (at h) (value w) (noted h.place)).0) (value v)
           ≡ value v
       other h w c =
           let below = touched_below s is h w c in
@@ -352,8 +353,12 @@ module _ (s : Settings) (threads : ℕ) (inputs : ℕ → List Packet) (p : Stat
       (subst (IsUnbound s bound) (its_port flow seen) unbound)
   no_cause reason (inr (inr (inr (inl (flow, seen, goes, bound, read, inr none, why))))) =
       none_used flow bound seen read none
-  no_cause reason (inr (inr (inr (inr (flow, seen, class, value, now, read, clock, none, why))))) =
+  no_cause reason (inr (inr (inr (inr (inl (flow, seen, class, value, now, read, clock, none, why)))))) =
       let both : Some Inbound ≡ Some OutboundError = sym to.2 ∙ class in absurd (cc)
+  no_cause reason (inr (inr (inr (inr (inr (flow, seen, inl class, most, limit, es, left, none, many, why)))))) =
+      let both : Some Inbound ≡ Some Outbound = sym to.2 ∙ class_is_seen s packet flow seen ∙ class in absurd (cc)
+  no_cause reason (inr (inr (inr (inr (inr (flow, seen, inr class, most, limit, es, left, none, many, why)))))) =
+      let both : Some Inbound ≡ Some Hairpin = sym to.2 ∙ class_is_seen s packet flow seen ∙ class in absurd (cc)
 
 pub none_is_dropped : NoneIsDropped
 none_is_dropped s threads inputs x earlier entry left place h p is bytes hist hand static to act what =

@@ -27,6 +27,7 @@ use Rattle.nat_tables.specs.declared.phase.Phase.TheVariants.{Kept}
 use Rattle.nat_tables.specs.Phases.{timer, is_kept}
 use Rattle.nat_tables.specs.Ports.{pool_without}
 use Rattle.nat_tables.specs.Forwards.{Forwards, first_idle, found_there, found, find, kept_slot, HasKept}
+use Rattle.nat_tables.specs.Hosts.{found_within, find_within}
 use Rattle.flow_boxes.specs.Drops.{no_drops}
 use Rattle.flow_boxes.specs.Flows.{source_of}
 use Rattle.flow_boxes.proofs.HeldInputs.{IsHeld, run_holds}
@@ -47,7 +48,8 @@ use Rattle.nat_box.specs.Noting.{place_again}
 use Rattle.nat_box.specs.Statics.{inside_of, outside_of, static_port, kept, outside_ports, IsStatic}
 use Rattle.nat_box.specs.Nat.{Settings, forward_table, reverse_table, flow_seen, class_seen, begun_by, mapped}
 use Rattle.nat_box.specs.Nat.{after_find}
-use Rattle.nat_box.specs.Nat.{touched, followed, looked, told, after_time, local_at, nat_meaning, kept_mappings}
+use Rattle.nat_box.specs.Nat.{after_find_within, touched_by, followed, looked, told, after_time, local_at, nat_meaning}
+use Rattle.nat_box.specs.Nat.{kept_mappings}
 use Rattle.nat_box.specs.Nat.{kept_bound, Fits}
 use Rattle.nat_box.specs.Lawful.{AreSettings, var_of, touches_it, nat_lawful}
 use Rattle.nat_box.specs.Sentences.{Has, mappings_in, bound_in}
@@ -133,23 +135,38 @@ module _ (s : Settings) (p : StaticPort) (static : IsStatic p (kept s.statics)) 
       subst (λ (g : Find). IsStraight (after_find n g).place) (sym live)
       (subst (λ (c : Class). IsStraight (mapped (record n { port = out }) c).place) (sym is) tt)
 
-  touch_straight : (m : Met) (packet : Packet) (v : ℕ) (place : Place) (x : NatValue) (n : Noted) → TouchKind place x
-      → Fits s v x → var_of s place n ≡ v → KnownAt s m packet place n → IsStraight place → GoesOut packet
-      → IsStraight (touched place x n).1.place
-  touch_straight m packet v _ _ n (finds es) fits it k straight to =
+  within_straight : (most : ℕ) (n : Noted) (es : Forwards) → HasKept n.source p.outside es → n.class ≡ Outbound
+      → (let r = find_within most n.source n.time es in IsStraight (after_find_within most n r.0 r.1).place)
+  within_straight most n es has is =
+      let live = kept_is_found n.source n.time p.outside es has in
+      subst
+      (λ (o : Option Slot).
+      let r = found_within most n.source n.time es o in IsStraight (after_find_within most n r.0 r.1).place) (sym has.1)
+      (subst (λ (f : Find). IsStraight (after_find_within most n f (find n.source n.time es).1).place) (sym live.1)
+      (find_straight n (Live live.0) live.0 refl is))
+
+  touch_straight : (m : Met) (packet : Packet) (v : ℕ) (place : Place) (x : NatValue) (n : Noted) (limit : Option ℕ)
+      → TouchKind place x → Fits s v x → var_of s place n ≡ v → KnownAt s m packet place n → IsStraight place
+      → GoesOut packet → IsStraight (touched_by limit place x n).1.place
+  touch_straight m packet v _ _ n (Some most) (finds es) fits it k straight to =
+      let source : n.source ≡ inside_of p = source_is packet n to k.0 in
+      let has : HasKept (inside_of p) p.outside es = fits.3 p static (sym it ∙ ap (forward_table s) source) in
+      within_straight most n es (subst (λ (key : Endpoint). HasKept key p.outside es) (sym source) has)
+      (class_is packet n to.1 k.0)
+  touch_straight m packet v _ _ n None (finds es) fits it k straight to =
       let source : n.source ≡ inside_of p = source_is packet n to k.0 in
       let has : HasKept (inside_of p) p.outside es = fits.3 p static (sym it ∙ ap (forward_table s) source) in
       let live = kept_is_found n.source n.time p.outside es
       (subst (λ (key : Endpoint). HasKept key p.outside es) (sym source) has) in
       find_straight n (find n.source n.time es).0 live.0 live.1 (class_is packet n to.1 k.0)
-  touch_straight m packet v _ _ n (unbinds_freed bs) fits it k straight to = absurd straight
-  touch_straight m packet v _ _ n (gives_freed pool) fits it k straight to = absurd straight
-  touch_straight m packet v _ _ n (reserves pool) fits it k straight to = absurd straight
-  touch_straight m packet v _ _ n (binds bs) fits it k straight to = absurd straight
-  touch_straight m packet v _ _ n (finds_or_binds es) fits it k straight to = absurd straight
-  touch_straight m packet v _ _ n (unbinds_lost bs) fits it k straight to = absurd straight
-  touch_straight m packet v _ _ n (gives_lost pool) fits it k straight to = absurd straight
-  touch_straight m packet v _ _ n (counts d) fits it k straight to = absurd straight
+  touch_straight m packet v _ _ n limit (unbinds_freed bs) fits it k straight to = absurd straight
+  touch_straight m packet v _ _ n limit (gives_freed pool) fits it k straight to = absurd straight
+  touch_straight m packet v _ _ n limit (reserves pool) fits it k straight to = absurd straight
+  touch_straight m packet v _ _ n limit (binds bs) fits it k straight to = absurd straight
+  touch_straight m packet v _ _ n limit (finds_or_binds es) fits it k straight to = absurd straight
+  touch_straight m packet v _ _ n limit (unbinds_lost bs) fits it k straight to = absurd straight
+  touch_straight m packet v _ _ n limit (gives_lost pool) fits it k straight to = absurd straight
+  touch_straight m packet v _ _ n limit (counts d) fits it k straight to = absurd straight
 
   not_looking : (place : Place) (x : NatValue) → LookKind place x → IsStraight place → ⊥
   not_looking _ _ (finds_endpoint bs) straight = straight
@@ -190,8 +207,8 @@ module _ (s : Settings) (p : StaticPort) (static : IsStatic p (kept s.statics)) 
         (λ h v w k straight.
         let below = touched_below s is h v w in
         let kind = touch_kind s is.some (noted h.place) v (value v) (fits v below) (at h) w in
-        straight_on h (touched (at h) (value v) (noted h.place)).1
-        (λ to. touch_straight m h.packet v (at h) (value v) (noted h.place) kind (fits v below)
+        straight_on h (touched_by s.limit (at h) (value v) (noted h.place)).1
+        (λ to. touch_straight m h.packet v (at h) (value v) (noted h.place) s.limit kind (fits v below)
         (touches_it s (at h) (noted h.place) v w) k (straight to) to))
         (λ h v w k straight.
         let below = read_below s is h v w in
@@ -240,7 +257,8 @@ module _ (s : Settings) (p : StaticPort) (static : IsStatic p (kept s.statics)) 
       move_never after d hand a move =
           by_move s packets value taken Never (λ packet input. tt)
           (λ h w c straight to e.
-          never_touch h w (followed s (noted h.place) (touched (at h) (value w) (noted h.place)).0) c straight to e)
+          never_touch h w (followed s (noted h.place) (touched_by s.limit (at h) (value w) (noted h.place)).0) c
+          straight to e)
           (λ h w c straight to e.
           not_read w (places w (log_of earlier)) (what_of (WasRead w (places w (log_of earlier))) e))
           (λ h x c straight to e. not_heard x (what_of (Heard x) e))

@@ -1,5 +1,6 @@
 -- Why a packet is counted as dropped, by the reason of the count.
-use Rattle.std.specs.Prelude.{◌≡◌, ℕ, ◌+◌, ◌*◌, ◌-◌, ◌%◌, ◌^◌, ◌<◌, ◌⊎◌, List, ◌∷◌, Option, Some, None, Ok, Err}
+use Rattle.std.specs.Prelude.{◌≡◌, ℕ, ◌+◌, ◌*◌, ◌-◌, ◌%◌, ◌^◌, ◌<◌, ◌≤◌, ◌⊎◌, List, ◌∷◌, Option, Some, None, Ok}
+use Rattle.std.specs.Prelude.{Err}
 use Rattle.std.specs.Prelude.{slice_index}
 use Rattle.std.specs.Prelude.{slice_set}
 use Rattle.plain_text.specs.declared.packet.Packet.{Packet}
@@ -14,6 +15,8 @@ use Rattle.nat_tables.specs.declared.entries.Endpoint.{Endpoint}
 use Rattle.nat_tables.specs.declared.entries.PortKey.{PortKey}
 use Rattle.nat_tables.specs.declared.slot.Slot.{Slot}
 use Rattle.nat_tables.specs.Keys.{port_key}
+use Rattle.nat_tables.specs.Forwards.{Forwards, slot_of}
+use Rattle.nat_tables.specs.Hosts.{count_of}
 use Rattle.flow_boxes.specs.declared.drops.Drops.{Drops}
 use Rattle.nat_box.specs.declared.value.NatValue.{NatValue}
 use Rattle.nat_box.specs.declared.value.NatValue.TheVariants.{Dropped}
@@ -90,11 +93,20 @@ FoundNoneOut s p met reason =
     × (met.at_forward ≡ Some value) × (met.clock ≡ Some now)
     × ((port : ℕ) → HasNoneUsed s value (source_of flow) port now) × (reason ≡ 7)
 
+-- 10: it comes from inside, and its host had as many mappings of its protocol as it may have, and its source none, in
+-- the forward table as the packet's touch left it
+abbrev pub FoundTooMany : Settings → Packet → Met → ℕ → Type 0
+FoundTooMany s p met reason =
+    (flow : Flow) × IsFlow p flow × IsFromInside s flow × (most : ℕ) × (s.limit ≡ Some most) × (es : Forwards)
+    × (met.left ≡ Some es) × (slot_of (source_of flow) es ≡ None)
+    × (most ≤ count_of flow.protocol flow.source es) × (reason ≡ 10)
+
 abbrev pub Cause : Settings → Packet → Met → ℕ → Type 0
 Cause s p met reason =
     IsNoFlow s p reason
     ⊎ (IsStray s p reason
-    ⊎ (FoundNoPort s p met reason ⊎ (FoundNoMapping s p met reason ⊎ FoundNoneOut s p met reason)))
+    ⊎ (FoundNoPort s p met reason
+    ⊎ (FoundNoMapping s p met reason ⊎ (FoundNoneOut s p met reason ⊎ FoundTooMany s p met reason))))
 
 -- one drop more for the reason
 abbrev pub one_more : ℕ → Drops → Drops

@@ -10,3 +10,4 @@ pub mod Inbound
 pub mod Refreshing
 pub mod StaticPorts
 pub mod Errors
+pub mod Limits

@@ -12,6 +12,7 @@ ghost use Rattle.nat_runs.specs.StaticPorts.{NoneGoingOutIsDropped, OnlyTheyStar
 ghost use Rattle.nat_runs.specs.StaticPorts.{MovesAreTheSame, NoneStartsWithoutThem};
 ghost use Rattle.nat_runs.specs.Errors.{BeginsByFlow, SendsByFlow, NoneFindsPort};
 ghost use Rattle.nat_runs.specs.Errors.{OtherMovesAreTheSame};
+ghost use Rattle.nat_runs.specs.Limits.{HostsKeepWithin, TouchesWithoutLimit, TablesWithoutLimit};
 
 /// After each move of each run, whatever its threads, its inputs and the order of its moves: each packet that a thread
 /// took was sent out once, or counted once as dropped, or is the one in hand and neither yet (`each`). So over all
@@ -34,9 +35,9 @@ pub fn mappings_stay_until_idle()
 
 /// Each mapping whose connection is followed is of TCP, and has the box's number of seconds (`by_the_line`). Where the
 /// box has none, no connection is followed, so each mapping is kept as its protocol says, or for good
-/// (`none_without_it`); each
-/// touch is that of the table of moves alone (`touches`), and no segment is noted (`begins`). The phase of a mapping
-/// changes by a packet from its own inside endpoint alone, and as the control bits of this packet say (`hosts`).
+/// (`none_without_it`); each touch is that of the table of moves, or of the limit, alone (`touches`), and no segment is
+/// noted (`begins`). The phase of a mapping changes by a packet from its own inside endpoint alone, and as the control
+/// bits of this packet say (`hosts`).
 pub fn connections_are_followed_by_the_line()
     ensures by_the_line { FollowedByTheLine }
     ensures none_without_it { NoneFollowedWithoutIt }
@@ -55,9 +56,10 @@ pub fn what_comes_in_found_a_used_mapping()
 
 /// Each drop that is counted has the cause of its reason: the frame is no flow (1 to 6), or a stray (9); its endpoint
 /// had no mapping or an idle one, and no port of its protocol was free (8); nothing was bound to the port that it goes
-/// to, or only an idle mapping (7). So what comes to a port with a used mapping is let in, whatever its source (RFC
-/// 4787, REQ-8, endpoint-independent filtering). An error of ICMP is a stray where it is about no packet that the box
-/// may have translated, and else found no used mapping.
+/// to, or only an idle mapping (7); its host had as many mappings of its protocol as it may have, and its endpoint none
+/// (10). So what comes to a port with a used mapping is let in, whatever its source (RFC 4787, REQ-8,
+/// endpoint-independent filtering). An error of ICMP is a stray where it is about no packet that the box may have
+/// translated, and else found no used mapping.
 pub fn drops_have_their_causes()
     ensures { DropsHaveCauses }
 {}
@@ -91,6 +93,16 @@ pub fn static_ports_stay()
     ensures kept { OnlyTheyAreKept }
     ensures moves { MovesAreTheSame }
     ensures none { NoneStartsWithoutThem }
+{}
+
+/// After each move of each run, whatever its threads, its inputs and the order of its moves: where hosts have a limit,
+/// no host has more mappings of a protocol, over all tables, than it may have, or than it has static ports (`within`;
+/// RFC 6888, REQ-4). Where they have none, each touch is that of the table of moves alone, and a mapping stands in the
+/// table of its whole endpoint (`touches`, `tables`).
+pub fn hosts_keep_within_their_limit()
+    ensures within { HostsKeepWithin }
+    ensures touches { TouchesWithoutLimit }
+    ensures tables { TablesWithoutLimit }
 {}
 
 /// Where the box has no line for errors of ICMP, each packet begins, and is sent out, as its frame is a flow or none

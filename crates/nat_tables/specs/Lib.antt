@@ -9,3 +9,5 @@ pub mod Times
 pub mod TimesFall
 pub mod Rows
 pub mod Idling
+pub mod Hosts
+pub mod HostCounts
