@@ -19,11 +19,11 @@ abbrev pub stray : ℕ
 stray = 9
 
 abbrev pub no_drops : Drops
-no_drops = record { counts = replicate 9 0 }
+no_drops = record { counts = replicate 10 0 }
 
 -- one packet more for this reason
 abbrev pub with_drop : ℕ → Drops → Drops
 with_drop reason d =
-    if nat_lt 0 reason && nat_lt reason 10
+    if nat_lt 0 reason && nat_lt reason 11
     then record { counts = slice_set d.counts (reason - 1) ((slice_index d.counts (reason - 1) + 1) % 2 ^ 64) }
     else d

@@ -26,11 +26,12 @@ pub fn reason_of(answer: NotFlow) -> u64
 
 /// How many packets were dropped, by the reason less 1, modulo 2^64.
 ///
-/// Reasons 1 to 6 are those for which a frame is no flow. What 7 to 9 mean is the box's to say.
+/// Reasons 1 to 6 are those for which a frame is no flow. What 7 to 10 mean is the box's to say. 10 is
+/// the NAT's, "over limit": a host has as many mappings as it may have.
 #[derive(Clone, Copy, Debug, PartialEq, Eq)]
 pub struct Drops {
     /// The count of reason 1 first.
-    pub counts: [u64; 9],
+    pub counts: [u64; 10],
 }
 
 impl Drops {
@@ -38,14 +39,14 @@ impl Drops {
     pub fn new() -> Self
         ensures { result ≡ no_drops }
     {
-        Drops { counts: [0; 9] }
+        Drops { counts: [0; 10] }
     }
 
-    /// Counts one packet more for a reason, 1 to 9.
+    /// Counts one packet more for a reason, 1 to 10.
     pub fn add(&mut self, reason: u64)
         ensures { self.new ≡ with_drop reason self.old }
     {
-        if 0 < reason && reason < 10 {
+        if 0 < reason && reason < 11 {
             let index = (reason - 1) as usize;
             self.counts[index] = self.counts[index].wrapping_add(1);
         }

@@ -11,3 +11,4 @@ pub mod TimesLemmas
 pub mod RowLemmas
 pub mod RowWords
 pub mod IdleLemmas
+pub mod HostLemmas

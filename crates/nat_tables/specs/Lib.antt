@@ -10,3 +10,4 @@ pub mod TimesFall
 pub mod Rows
 pub mod Idling
 pub mod Hosts
+pub mod HostCounts

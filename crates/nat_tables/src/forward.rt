@@ -3,6 +3,8 @@ ghost use Rattle.std.specs.Prelude.{ℕ, ◌+◌, ◌^◌, ◌<◌, ◌≤◌, f
 ghost use Rattle.nat_tables.specs.Forwards.{slot_of, find, idle_removed, find_or_bind, refresh};
 ghost use Rattle.nat_tables.specs.Forwards.{without, lives, mapping_at, first_idle, mark, keep};
 ghost use Rattle.nat_tables.specs.Forwards.{with_phase, idle_taken};
+ghost use Rattle.nat_tables.specs.Hosts.{count_of, first_idle_of};
+ghost use Rattle.nat_tables.specs.HostCounts.{row_is_of_host};
 ghost use Rattle.nat_tables.specs.Rows.{present, row_at};
 ghost use Rattle.nat_tables.specs.Idling.{AreBusyUntil, IsFirstIdle, NoneIsIdle, row_is_idle};
 ghost use Rattle.nat_tables.specs.Idling.{IsBusyUntil};
@@ -47,6 +49,16 @@ fn is_idle(row: Option<(Endpoint, Slot)>, now: u64) -> bool
 {
     match row {
         Some((key, slot)) => slot.is_idle(&key, now),
+        None => false,
+    }
+}
+
+/// Whether the mapping of a row is of this endpoint's host; an empty row has none.
+fn is_of_host(key: &Endpoint, row: Option<(Endpoint, Slot)>) -> bool
+    ensures { result ≡ row_is_of_host key.now row }
+{
+    match row {
+        Some((own, _)) => own.protocol == key.protocol && own.address == key.address,
         None => false,
     }
 }
@@ -292,6 +304,32 @@ impl Forward {
         ensures { result ≡ length self.now }
     {
         self.slots.len()
+    }
+
+    /// How many mappings the endpoint's host has, idle ones included. It looks at each row.
+    pub(crate) fn count_of(&self, key: &Endpoint) -> usize
+        ensures { result ≡ count_of key.now.protocol key.now.address self.now }
+    {
+        let mut count = 0;
+        for at in 0..self.slots.rows() {
+            if is_of_host(key, self.slots.row(at)) {
+                count += 1;
+            }
+        }
+        count
+    }
+
+    /// The first of the mappings of the endpoint's host that is idle. It looks at each row.
+    pub(crate) fn first_idle_of(&self, key: &Endpoint, now: u64) -> Option<(Endpoint, Slot)>
+        ensures { result ≡ first_idle_of key.now now self.now }
+    {
+        for at in 0..self.slots.rows() {
+            let row = self.slots.row(at);
+            if is_of_host(key, row) && is_idle(row, now) {
+                return row;
+            }
+        }
+        None
     }
 
     /// The mapping at an index, in first-seen order. None exactly where the index is past the last one.
