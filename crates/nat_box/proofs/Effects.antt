@@ -1,6 +1,6 @@
 -- What each touch changes in the places of a port.
 use Rattle.std.proofs.Common.{◌≡◌, ℕ, ◌+◌, ◌≤◌, Bool, true, false, [], ◌∷◌, ◌++◌, refl, sym, ap, ◌∙◌, subst, arith}
-use Rattle.std.proofs.Common.{Option, Some, None}
+use Rattle.std.proofs.Common.{Option, Some, None, inl, inr}
 use Rattle.std.specs.Prelude.{◌&&◌, ◌==◌}
 use Rattle.std.proofs.lemmas.Bool.Decides.{nat_tests}
 use Rattle.nat_tables.specs.declared.entries.Endpoint.{Endpoint}
@@ -27,6 +27,9 @@ use Rattle.nat_box.specs.declared.value.NatValue.{NatValue}
 use Rattle.nat_box.specs.declared.value.NatValue.TheVariants.{Dropped, Free, Mapped, Taken}
 use Rattle.nat_box.specs.Places.{source_key}
 use Rattle.nat_box.specs.Nat.{Settings, reverse_table, mapped, after_find, after_reserve, after_bind, touched, Fits}
+use Rattle.nat_box.specs.Nat.{goes, dropped, over_limit}
+use Rattle.nat_box.specs.declared.place.Goes.{Goes}
+use Rattle.nat_box.specs.LimitLaws.{Comes}
 use Rattle.nat_box.specs.Lawful.{var_of}
 use Rattle.nat_box.specs.PortStanding.{free_at, maps, maps_for, mapped_at, binds, binds_for, taken_at, bare, queued}
 use Rattle.nat_box.specs.PortStanding.{queued_for, loose, Tally, IsSound}
@@ -315,19 +318,16 @@ module _ (s : Settings) (some : 1 ≤ s.shards) (k : PortKey) (e : Endpoint) (th
         freed_sound gone (without_idle n.time es) (λ number. total_without_idle number n.time gone es first) shift owns
     find_by None None is first shift owns = kept_sound DrawsWord n es tt (λ number. refl) shift owns
 
-    -- a mapping is made of the port in hand, or one is there and the port in hand is lost
-    bind_by : (a : Option Slot) → slot_of n.source es ≡ a
-        → (let r = bound n.source n.port n.time es a in
-        Shifts y z (seen k e (Mapped es) FindsOrBinds n)
-        (seen k e (Mapped r.1) (after_bind n r.0).place (after_bind n r.0).noted))
-        → (let r = bound n.source n.port n.time es a in
-        Own own y z (seen k e (Mapped es) FindsOrBinds n)
-        (seen k e (Mapped r.1) (after_bind n r.0).place (after_bind n r.0).noted)) → IsSound there z
-    bind_by (Some slot) is shift owns =
-        let left : Forwards = refresh n.source n.time es in
-        let m : Noted = record n { port = slot.port; freed = source_key n } in
-        let a : total (maps k) left ≡ total (maps k) es = total_refresh (maps k) n.source n.time es in
-        let c : total (maps_for k e) left ≡ total (maps_for k e) es = total_refresh (maps_for k e) n.source n.time es in
+    -- the port in hand is lost: no mapping is made of it
+    lost_sound : (port : ℕ) (left : Forwards) → ((number : Endpoint → ℕ → ℕ) → total number left ≡ total number es)
+        → Shifts y z (seen k e (Mapped es) FindsOrBinds n)
+        (seen k e (Mapped left) UnbindsLost (record n { port = port; freed = source_key n }))
+        → Own own y z (seen k e (Mapped es) FindsOrBinds n)
+        (seen k e (Mapped left) UnbindsLost (record n { port = port; freed = source_key n })) → IsSound there z
+    lost_sound port left sums shift owns =
+        let m : Noted = record n { port = port; freed = source_key n } in
+        let a : total (maps k) left ≡ total (maps k) es = sums (maps k) in
+        let c : total (maps_for k e) left ≡ total (maps_for k e) es = sums (maps_for k e) in
         let t = same_taken own y z (seen k e (Mapped es) FindsOrBinds n) (seen k e (Mapped left) UnbindsLost m) owns
         refl refl in
         let f : z.free ≡ y.free = omega (arith, shift.free) in
@@ -342,6 +342,17 @@ module _ (s : Settings) (some : 1 ≤ s.shards) (k : PortKey) (e : Endpoint) (th
           bound = omega (arith, sound.bound, mm, q, l, t.0);
           same = omega (arith, sound.same, mf, qf, t.1);
         }
+
+    -- a mapping is made of the port in hand, or one is there and the port in hand is lost
+    bind_by : (a : Option Slot) → slot_of n.source es ≡ a
+        → (let r = bound n.source n.port n.time es a in
+        Shifts y z (seen k e (Mapped es) FindsOrBinds n)
+        (seen k e (Mapped r.1) (after_bind n r.0).place (after_bind n r.0).noted))
+        → (let r = bound n.source n.port n.time es a in
+        Own own y z (seen k e (Mapped es) FindsOrBinds n)
+        (seen k e (Mapped r.1) (after_bind n r.0).place (after_bind n r.0).noted)) → IsSound there z
+    bind_by (Some slot) is shift owns =
+        lost_sound slot.port (refresh n.source n.time es) (λ number. total_refresh number n.source n.time es) shift owns
     bind_by None is shift owns =
         let slot : Slot = record { port = n.port; last = n.time; phase = Plain } in
         let left : Forwards = es ++ (n.source, slot) ∷ [] in
@@ -560,7 +571,7 @@ module _ (s : Settings) (some : 1 ≤ s.shards) (k : PortKey) (e : Endpoint) (th
       let c : (v == reverse_table s k) ≡ true = grind (arith, nat_tests) in sym is ∙ c
 
   -- each touch
-  pub touch_sound : (p : Place) (x : NatValue) (n : Noted) (v : ℕ) → var_of s p n ≡ v → (v == reverse_table s k) ≡ own
+  touch_sound : (p : Place) (x : NatValue) (n : Noted) (v : ℕ) → var_of s p n ≡ v → (v == reverse_table s k) ≡ own
       → Fits s v x → (y.mapped ≡ 0 → of_range s.low s.high k ≡ there) → IsPart (seen k e x p n) y
       → Shifts y z (seen k e x p n) (seen k e (touched p x n).0 (touched p x n).1.place (touched p x n).1.noted)
       → Own own y z (seen k e x p n) (seen k e (touched p x n).0 (touched p x n).1.place (touched p x n).1.noted)
@@ -651,3 +662,45 @@ module _ (s : Settings) (some : 1 ≤ s.shards) (k : PortKey) (e : Endpoint) (th
   touch_sound SendsOut x n v at is fits range part shift owns touches = absurd touches
   touch_sound Ends x n v at is fits range part shift owns touches = absurd touches
   touch_sound FindsPort x n v at is fits range part shift owns touches = absurd touches
+
+  -- what was counted before a touch, and how it changes
+  abbrev Turns : Place → NatValue → Noted → NatValue × Goes → Type 0
+  Turns p x n r =
+      IsPart (seen k e x p n) y × Shifts y z (seen k e x p n) (seen k e r.0 r.1.place r.1.noted)
+      × Own own y z (seen k e x p n) (seen k e r.0 r.1.place r.1.noted)
+
+  turns_as : (n : Noted) (p q : Place) (x w : NatValue) (r t : NatValue × Goes) → p ≡ q → x ≡ w → r ≡ t → Turns p x n r
+      → Turns q w n t
+  turns_as n p q x w r t at value same turns =
+      subst (λ (u : NatValue × Goes). Turns q w n u) same
+      (subst (λ (u : NatValue). Turns q u n r) value (subst (λ (u : Place). Turns u x n r) at turns))
+
+  -- each touch, where hosts have a limit or not
+  pub limited_sound : (p : Place) (x : NatValue) (n : Noted) (v : ℕ) (r : NatValue × Goes) → var_of s p n ≡ v
+      → (v == reverse_table s k) ≡ own → Fits s v x → (y.mapped ≡ 0 → of_range s.low s.high k ≡ there) → Turns p x n r
+      → Touches p → Comes s.limit p x n r → IsSound there z
+  limited_sound p x n v r at is fits range turns touches (inl agrees) =
+      let t : Turns p x n (touched p x n) = turns_as n p p x x r (touched p x n) refl refl agrees.same turns in
+      touch_sound p x n v at is fits range t.0 t.1 t.2 touches
+  limited_sound p x n v r at is fits range turns touches (inr (inl (inl up))) =
+      let left : Forwards = without up.gone.0 up.es in
+      let t = turns_as n p FindsMapping x (Mapped up.es) r
+      (Mapped left, goes UnbindsFreed (record n { freed = port_of up.gone })) up.at up.value up.goes_on turns in
+      freed_sound n up.es up.gone left (λ number. total_without number up.gone.0 up.gone.1 up.es up.there) t.1 t.2
+  limited_sound p x n v r at is fits range turns touches (inr (inl (inr full))) =
+      let t = turns_as n p FindsMapping x (Mapped full.es) r (Mapped full.es, dropped n over_limit) full.at full.value
+      full.goes_on turns in
+      kept_sound n full.es CountsDrop (dropped n over_limit).noted full.es tt (λ number. refl) t.1 t.2
+  limited_sound p x n v r at is fits range turns touches (inr (inr (inl refused))) =
+      let t = turns_as n p FindsOrBinds x (Mapped refused.es) r
+      (Mapped refused.es, goes UnbindsLost (record n { port = 0; freed = source_key n })) refused.at refused.value
+      refused.goes_on turns in
+      lost_sound n refused.es 0 refused.es (λ number. refl) t.1 t.2
+  limited_sound p x n v r at is fits range turns touches (inr (inr (inr late))) =
+      let pool : PoolPorts = late.pool in
+      let f : Fits s v (Free pool) = subst (Fits s v) late.value fits in
+      let t = turns_as n p GivesBackLost x (Free pool) r
+      (Free (give_back n.freed.protocol n.freed.port pool), dropped n over_limit) late.at late.value late.goes_on
+      turns in
+      give_by n pool GivesBackLost (refl, refl, refl, refl) CountsDrop (dropped n over_limit).noted tt
+      (in_range s.low s.high pool (sym f.1) (sym f.2) range) (same_port k n.freed) refl t.0 t.1 t.2

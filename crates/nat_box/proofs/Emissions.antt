@@ -15,7 +15,7 @@ use Rattle.plain_machine.specs.History.{IsHistory}
 use Rattle.plain_machine.specs.declared.emission.Emission.{Emission}
 use Rattle.plain_machine.proofs.Histories.{not_eq, is_eq}
 use Rattle.plain_machine.proofs.Bounds.{values_fit}
-use Rattle.nat_tables.specs.Ports.{reserve}
+use Rattle.nat_tables.specs.Ports.{PoolPorts, reserve}
 use Rattle.nat_tables.specs.Forwards.{Forwards, slot_of, refresh, refreshed, is_idle, first_idle, found_there, found}
 use Rattle.nat_tables.specs.Forwards.{bound, lives, port_of}
 use Rattle.nat_tables.specs.Reverses.{Reverses, endpoint_of, AreBound}
@@ -51,12 +51,13 @@ use Rattle.nat_tables.proofs.Keeping.{may_slot}
 use Rattle.nat_tables.specs.Forwards.{AreMappings}
 use Rattle.nat_box.specs.Nat.{begun, mapped, after_find, after_reserve, after_bind, touched, after_endpoint, looked_by}
 use Rattle.nat_box.specs.Nat.{looked, after_time, told, frame_out, local_at, nat_meaning, MayBind, Fits, segment_told}
-use Rattle.nat_box.specs.Nat.{followed}
+use Rattle.nat_box.specs.Nat.{followed, touched_by}
+use Rattle.nat_box.specs.LimitLaws.{Comes, IsPort, touch_comes}
 use Rattle.nat_box.specs.Noting.{place_again, IsNoted, is_noted, noted_again}
 use Rattle.nat_box.specs.Lawful.{AreSettings, var_of, touches_it, reads_it, below_all, nat_lawful}
 use Rattle.nat_box.specs.Emissions.{Trail, no_trail, left_forward, trail_by, trail_of, WasMapped, Lived}
 use Rattle.nat_box.specs.Emissions.{IsTranslated, IsTranslationOf, EmissionsTranslate}
-use Rattle.nat_box.proofs.Noting.{touched_noted}
+use Rattle.nat_box.proofs.Noting.{touch_noted}
 use Rattle.flow_boxes.proofs.Fitting.{IsWhole, slot_refreshed, slot_bound}
 use Rattle.flow_boxes.proofs.HeldInputs.{IsHeld, move_holds, run_holds}
 use Rattle.nat_box.proofs.Making.{goes_on, comes_to, Made, made}
@@ -113,9 +114,11 @@ KnownAt s r p ReservesPort n = IsBase s p n × (r.clock ≡ Some n.time) × IsOu
 KnownAt s r p BindsPort n = IsBase s p n × (r.clock ≡ Some n.time) × IsOutward n.class
 KnownAt s r p FindsOrBinds n = IsBase s p n × (r.clock ≡ Some n.time) × IsOutward n.class
 KnownAt s r p UnbindsLost n =
-    IsBase s p n × (r.clock ≡ Some n.time) × IsOutward n.class × WasMapped r.forward n.source n.port
+    IsBase s p n × (r.clock ≡ Some n.time) × IsOutward n.class
+    × (IsPort s.limit n.port → WasMapped r.forward n.source n.port)
 KnownAt s r p GivesBackLost n =
-    IsBase s p n × (r.clock ≡ Some n.time) × IsOutward n.class × WasMapped r.forward n.source n.port
+    IsBase s p n × (r.clock ≡ Some n.time) × IsOutward n.class
+    × (IsPort s.limit n.port → WasMapped r.forward n.source n.port)
 KnownAt s r p FindsEndpoint n =
     IsBase s p n × (r.clock ≡ Some n.time) × IsInward n.class × IfOutward n.class (WasMapped r.forward n.source n.port)
 KnownAt s r p AsksIfLives n =
@@ -202,7 +205,7 @@ module _ (s : Settings) (p : Packet) where
           base_on n m refl refl refl base,
           clock,
           out,
-          (left, refreshed n.time slot, refl, slot_refreshed n.source n.time slot es is, refl),
+          λ port. (left, refreshed n.time slot, refl, slot_refreshed n.source n.time slot es is, refl),
         )
     bound_known None is =
         let slot : Slot = record { port = n.port; last = n.time; phase = Plain } in
@@ -234,8 +237,8 @@ module _ (s : Settings) (p : Packet) where
   with_forward f g read clock each ReservesPort n k = k
   with_forward f g read clock each BindsPort n k = k
   with_forward f g read clock each FindsOrBinds n k = k
-  with_forward f g read clock each UnbindsLost n k = (k.0, k.1, k.2, each n.source n.port k.3)
-  with_forward f g read clock each GivesBackLost n k = (k.0, k.1, k.2, each n.source n.port k.3)
+  with_forward f g read clock each UnbindsLost n k = (k.0, k.1, k.2, λ is. each n.source n.port (k.3 is))
+  with_forward f g read clock each GivesBackLost n k = (k.0, k.1, k.2, λ is. each n.source n.port (k.3 is))
   with_forward f g read clock each FindsEndpoint n k = (
     k.0,
     k.1,
@@ -266,52 +269,75 @@ module _ (s : Settings) (p : Packet) where
 
   touch_known : (r : Trail) (place : Place) (x : NatValue) (n : Noted) (v : ℕ) → next_move s place n ≡ Access v
       → KnownAt s r p place n
+      → ((pool : PoolPorts) → place ≡ GivesBackLost → x ≡ Free pool → IsPort s.limit n.port)
       → KnownAt s (after_touch (touched place x n).0 r) p (touched place x n).1.place (touched place x n).1.noted
-  touch_known r HearsTime x n v e k = absurd (cc)
-  touch_known r FindsMapping (Dropped d) n v e k = tt
-  touch_known r FindsMapping (Free pool) n v e k = tt
-  touch_known r FindsMapping (Mapped es) n v e k =
+  touch_known r HearsTime x n v e k port = absurd (cc)
+  touch_known r FindsMapping (Dropped d) n v e k port = tt
+  touch_known r FindsMapping (Free pool) n v e k port = tt
+  touch_known r FindsMapping (Mapped es) n v e k port =
       found_known r n es k.0 k.1 k.2 (slot_of n.source es) (first_idle n.time es) refl
-  touch_known r FindsMapping (Taken bs) n v e k = tt
-  touch_known r UnbindsFreed (Dropped d) n v e k = tt
-  touch_known r UnbindsFreed (Free pool) n v e k = tt
-  touch_known r UnbindsFreed (Mapped es) n v e k = tt
-  touch_known r UnbindsFreed (Taken bs) n v e k = k
-  touch_known r GivesBackFreed (Dropped d) n v e k = tt
-  touch_known r GivesBackFreed (Free pool) n v e k = k
-  touch_known r GivesBackFreed (Mapped es) n v e k = tt
-  touch_known r GivesBackFreed (Taken bs) n v e k = tt
-  touch_known r DrawsWord x n v e k = absurd (cc)
-  touch_known r ReservesPort (Dropped d) n v e k = tt
-  touch_known r ReservesPort (Free pool) n v e k =
+  touch_known r FindsMapping (Taken bs) n v e k port = tt
+  touch_known r UnbindsFreed (Dropped d) n v e k port = tt
+  touch_known r UnbindsFreed (Free pool) n v e k port = tt
+  touch_known r UnbindsFreed (Mapped es) n v e k port = tt
+  touch_known r UnbindsFreed (Taken bs) n v e k port = k
+  touch_known r GivesBackFreed (Dropped d) n v e k port = tt
+  touch_known r GivesBackFreed (Free pool) n v e k port = k
+  touch_known r GivesBackFreed (Mapped es) n v e k port = tt
+  touch_known r GivesBackFreed (Taken bs) n v e k port = tt
+  touch_known r DrawsWord x n v e k port = absurd (cc)
+  touch_known r ReservesPort (Dropped d) n v e k port = tt
+  touch_known r ReservesPort (Free pool) n v e k port =
       reserved_known r n (reserve n.source.protocol n.source.port n.word pool).0 k.0 k.1 k.2
-  touch_known r ReservesPort (Mapped es) n v e k = tt
-  touch_known r ReservesPort (Taken bs) n v e k = tt
-  touch_known r BindsPort (Dropped d) n v e k = tt
-  touch_known r BindsPort (Free pool) n v e k = tt
-  touch_known r BindsPort (Mapped es) n v e k = tt
-  touch_known r BindsPort (Taken bs) n v e k = k
-  touch_known r FindsOrBinds (Dropped d) n v e k = tt
-  touch_known r FindsOrBinds (Free pool) n v e k = tt
-  touch_known r FindsOrBinds (Mapped es) n v e k = bound_known r n es k.0 k.1 k.2 (slot_of n.source es) refl
-  touch_known r FindsOrBinds (Taken bs) n v e k = tt
-  touch_known r UnbindsLost (Dropped d) n v e k = tt
-  touch_known r UnbindsLost (Free pool) n v e k = tt
-  touch_known r UnbindsLost (Mapped es) n v e k = tt
-  touch_known r UnbindsLost (Taken bs) n v e k = k
-  touch_known r GivesBackLost (Dropped d) n v e k = tt
-  touch_known r GivesBackLost (Free pool) n v e k = mapped_known r n n.class refl k.0 k.1 k.2 k.3
-  touch_known r GivesBackLost (Mapped es) n v e k = tt
-  touch_known r GivesBackLost (Taken bs) n v e k = tt
-  touch_known r FindsEndpoint x n v e k = absurd (cc)
-  touch_known r AsksIfLives x n v e k = absurd (cc)
-  touch_known r CountsDrop (Dropped d) n v e k = tt
-  touch_known r CountsDrop (Free pool) n v e k = tt
-  touch_known r CountsDrop (Mapped es) n v e k = tt
-  touch_known r CountsDrop (Taken bs) n v e k = tt
-  touch_known r SendsOut x n v e k = absurd (cc)
-  touch_known r Ends x n v e k = absurd (cc)
-  touch_known r FindsPort x n v e k = absurd (cc)
+  touch_known r ReservesPort (Mapped es) n v e k port = tt
+  touch_known r ReservesPort (Taken bs) n v e k port = tt
+  touch_known r BindsPort (Dropped d) n v e k port = tt
+  touch_known r BindsPort (Free pool) n v e k port = tt
+  touch_known r BindsPort (Mapped es) n v e k port = tt
+  touch_known r BindsPort (Taken bs) n v e k port = k
+  touch_known r FindsOrBinds (Dropped d) n v e k port = tt
+  touch_known r FindsOrBinds (Free pool) n v e k port = tt
+  touch_known r FindsOrBinds (Mapped es) n v e k port = bound_known r n es k.0 k.1 k.2 (slot_of n.source es) refl
+  touch_known r FindsOrBinds (Taken bs) n v e k port = tt
+  touch_known r UnbindsLost (Dropped d) n v e k port = tt
+  touch_known r UnbindsLost (Free pool) n v e k port = tt
+  touch_known r UnbindsLost (Mapped es) n v e k port = tt
+  touch_known r UnbindsLost (Taken bs) n v e k port = k
+  touch_known r GivesBackLost (Dropped d) n v e k port = tt
+  touch_known r GivesBackLost (Free pool) n v e k port =
+      mapped_known r n n.class refl k.0 k.1 k.2 (k.3 (port pool refl refl))
+  touch_known r GivesBackLost (Mapped es) n v e k port = tt
+  touch_known r GivesBackLost (Taken bs) n v e k port = tt
+  touch_known r FindsEndpoint x n v e k port = absurd (cc)
+  touch_known r AsksIfLives x n v e k port = absurd (cc)
+  touch_known r CountsDrop (Dropped d) n v e k port = tt
+  touch_known r CountsDrop (Free pool) n v e k port = tt
+  touch_known r CountsDrop (Mapped es) n v e k port = tt
+  touch_known r CountsDrop (Taken bs) n v e k port = tt
+  touch_known r SendsOut x n v e k port = absurd (cc)
+  touch_known r Ends x n v e k port = absurd (cc)
+  touch_known r FindsPort x n v e k port = absurd (cc)
+
+  -- by what comes of it where hosts have a limit
+  limited_known : (r : Trail) (place : Place) (x : NatValue) (n : Noted) (v : ℕ) (t : NatValue × Goes)
+      → next_move s place n ≡ Access v → KnownAt s r p place n → Comes s.limit place x n t
+      → KnownAt s (after_touch t.0 r) p t.1.place t.1.noted
+  limited_known r place x n v t e k (inl agrees) = rw agrees.same (touch_known r place x n v e k agrees.port)
+  limited_known r place x n v t e k (inr (inl (inl up))) =
+      let known : KnownAt s r p FindsMapping n = subst (λ (q : Place). KnownAt s r p q n) up.at k in
+      rw up.goes_on
+      (base_on n (record n { freed = port_of up.gone }) refl refl refl known.0, known.1, known.2)
+  limited_known r place x n v t e k (inr (inl (inr full))) = rw full.goes_on tt
+  limited_known r place x n v t e k (inr (inr (inl refused))) =
+      let known : KnownAt s r p FindsOrBinds n = subst (λ (q : Place). KnownAt s r p q n) refused.at k in
+      let none : IsPort s.limit 0 → ⊥ = rw refused.within (λ is. absurd (cc)) in
+      rw refused.goes_on (
+        base_on n (record n { port = 0; freed = source_key n }) refl refl refl known.0,
+        known.1,
+        known.2,
+        λ port. absurd (none port),
+      )
+  limited_known r place x n v t e k (inr (inr (inr late))) = rw late.goes_on tt
 
   -- a read
   abbrev after_look : NatValue → Trail → Trail
@@ -674,12 +700,12 @@ made_known s is packets t earlier taken tn before after (Touches v left) bytes f
     let at : var_of s place n ≡ v = touches_it s place n v m.2 in
     let below : v < 2 + 2 * s.shards = subst (λ (u : ℕ). u < 2 + 2 * s.shards) at (below_all s place n is.some) in
     let known : KnownAt s r h.packet place n = subst (Known s r) m.1 k in
-    let left : NatValue = followed s n (touched place x n).0 in
-    let next = followed_known s h.packet r n (touched place x n).0 (touched place x n).1.place
-    (touched place x n).1.noted (touch_known s h.packet r place x n v m.2 known) in
-    let on : Known s (after_touch left r) (goes_on h (touched place x n).1) =
-    known_on s (after_touch left r) h (touched place x n).1
-    (touched_noted s place x n v (is_noted h.place) (fits v below)) next in
+    let u : NatValue × Goes = touched_by s.limit place x n in
+    let left : NatValue = followed s n u.0 in
+    let next = followed_known s h.packet r n u.0 u.1.place u.1.noted
+    (limited_known s h.packet r place x n v u m.2 known (touch_comes s v s.limit place x n (fits v below))) in
+    let on : Known s (after_touch left r) (goes_on h u.1) =
+    known_on s (after_touch left r) h u.1 (touch_noted s place x n v (is_noted h.place) (fits v below)) next in
     subst (λ (y : NatValue). Known s (after_touch y r) after) (sym m.3)
     (subst (Known s (after_touch left r)) (sym m.4) on)
 made_known s is packets t earlier taken tn before after (Looks v) bytes fits r k m =

@@ -8,7 +8,7 @@ use Rattle.plain_machine.specs.Machine.{Hand, Thread, Effect, Takes, Touches, Lo
 use Rattle.plain_machine.specs.Machine.{Ends as EndsIt, Moves, holding, sent_packet, take_move, hand_move, held_move}
 use Rattle.nat_box.specs.Places.{place_numbered, noted}
 use Rattle.nat_box.specs.declared.place.Goes.{Goes}
-use Rattle.nat_box.specs.Nat.{Settings, goes, next_move, seen_by, begun, touched, followed, looked, told, local_at}
+use Rattle.nat_box.specs.Nat.{Settings, goes, next_move, seen_by, begun, touched_by, followed, looked, told, local_at}
 use Rattle.nat_box.specs.Nat.{nat_meaning}
 use Rattle.nat_box.specs.declared.place.Place.TheVariants.{Ends}
 use Rattle.nat_box.specs.declared.value.NatValue.{NatValue}
@@ -26,8 +26,8 @@ Made s packets taken value before after Takes =
     × (after ≡ Some (record { packet = p; place = local_at (begun s (seen_by s p)) }))
 Made s packets taken value before after (Touches v left) =
     (h : Hand) × (before ≡ Some h) × comes_to s h (Access v)
-    × (left ≡ followed s (noted h.place) (touched (place_numbered h.place.at) (value v) (noted h.place)).0)
-    × (after ≡ goes_on h (touched (place_numbered h.place.at) (value v) (noted h.place)).1)
+    × (left ≡ followed s (noted h.place) (touched_by s.limit (place_numbered h.place.at) (value v) (noted h.place)).0)
+    × (after ≡ goes_on h (touched_by s.limit (place_numbered h.place.at) (value v) (noted h.place)).1)
 Made s packets taken value before after (Looks v) =
     (h : Hand) × (before ≡ Some h) × comes_to s h (Read v)
     × (after ≡ goes_on h (looked (place_numbered h.place.at) (value v) (noted h.place)))

@@ -13,7 +13,7 @@ use Rattle.nat_tables.specs.Forwards.{lives}
 use Rattle.nat_tables.specs.Reverses.{endpoint_of}
 use Rattle.nat_box.specs.Places.{place_numbered, noted, dest_key}
 use Rattle.nat_box.specs.declared.place.Goes.{Goes}
-use Rattle.nat_box.specs.Nat.{Settings, goes, next_move, seen_by, flow_in, class_in, begun_by, begun, touched}
+use Rattle.nat_box.specs.Nat.{Settings, goes, next_move, seen_by, flow_in, class_in, begun_by, begun, touched_by}
 use Rattle.nat_box.specs.Nat.{after_endpoint, looked_by, used_port, after_port, looked, after_time, told, local_at}
 use Rattle.nat_box.specs.Nat.{nat_meaning, followed}
 use Rattle.nat_box.specs.declared.seeing.Seen.{Seen}
@@ -189,10 +189,13 @@ look_none s FindsPort (Taken bs) n v e = (tt, tt)
 abbrev pub Outcome : Settings → (ℕ → NatValue) → Option Hand → Option Hand → Effect NatValue → Type 0
 Outcome s value before after (Touches v left) =
     (h : Hand) × (before ≡ Some h) × (next_move s (place_numbered h.place.at) (noted h.place) ≡ Access v)
-    × (left ≡ followed s (noted h.place) (touched (place_numbered h.place.at) (value v) (noted h.place)).0)
+    × (left ≡ followed s (noted h.place) (touched_by s.limit (place_numbered h.place.at) (value v) (noted h.place)).0)
     × (after
     ≡ Some
-    (record { packet = h.packet; place = local_at (touched (place_numbered h.place.at) (value v) (noted h.place)).1 }))
+    (record {
+      packet = h.packet;
+      place = local_at (touched_by s.limit (place_numbered h.place.at) (value v) (noted h.place)).1;
+    }))
 Outcome s value before after Takes = HandNone before × HandNone after
 Outcome s value before after (Looks v) = HandNone before × HandNone after
 Outcome s value before after (HearsClock a) = HandNone before × HandNone after

@@ -1,6 +1,6 @@
 -- What a touch leaves noted fits its fields.
 use Rattle.std.proofs.Common.{◌≡◌, ℕ, zero, suc, ◌%◌, ◌^◌, ◌<◌, Bool, true, false, List, [], ◌∷◌, length, refl, subst}
-use Rattle.std.proofs.Common.{arith, Option, Some, None}
+use Rattle.std.proofs.Common.{arith, Option, Some, None, inl, inr}
 use Rattle.std.specs.Prelude.{◌==◌, slice_index}
 use Rattle.std.specs.List.{remove}
 use Rattle.nat_tables.specs.Ports.{Ports, PoolPorts, chosen, of_even, of_odd, is_even, reserved_of, reserve}
@@ -10,7 +10,10 @@ use Rattle.nat_tables.specs.Forwards.{AreMappings}
 use Rattle.nat_tables.proofs.Keeping.{may_slot, may_idle}
 use Rattle.nat_box.specs.Places.{source_key}
 use Rattle.nat_box.specs.Nat.{Settings, mapped, after_find, after_reserve, after_bind, touched, MayMap, Fits}
+use Rattle.nat_box.specs.Nat.{touched_by}
 use Rattle.nat_box.specs.Noting.{IsNoted}
+use Rattle.nat_box.specs.LimitLaws.{Comes, touch_comes}
+use Rattle.nat_box.specs.declared.place.Goes.{Goes}
 use Rattle.nat_tables.specs.declared.entries.Endpoint.{Endpoint}
 use Rattle.nat_tables.specs.declared.entries.PortKey.{PortKey}
 use Rattle.nat_tables.specs.declared.slot.Slot.{Slot}
@@ -153,7 +156,7 @@ reserved_noted : (n : Noted) (o : Option ℕ) → IsNoted n → ((p : ℕ) → o
 reserved_noted n (Some p) is small = with_port n p (small p refl) is
 reserved_noted n None is small = with_word n 8 is
 
-pub touched_noted : (s : Settings) (p : Place) (x : NatValue) (n : Noted) (v : ℕ) → IsNoted n → Fits s v x
+touched_noted : (s : Settings) (p : Place) (x : NatValue) (n : Noted) (v : ℕ) → IsNoted n → Fits s v x
     → IsNoted (touched p x n).1.noted
 touched_noted s HearsTime x n v is fits = is
 touched_noted s FindsMapping (Dropped d) n v is fits = is
@@ -201,3 +204,21 @@ touched_noted s CountsDrop (Taken bs) n v is fits = is
 touched_noted s SendsOut x n v is fits = is
 touched_noted s Ends x n v is fits = is
 touched_noted s FindsPort x n v is fits = is
+
+limited_noted : (s : Settings) (p : Place) (x : NatValue) (n : Noted) (v : ℕ) (r : NatValue × Goes) → IsNoted n
+    → Fits s v x → Comes s.limit p x n r → IsNoted r.1.noted
+limited_noted s p x n v r is fits (inl agrees) = rw agrees.same (touched_noted s p x n v is fits)
+limited_noted s p x n v r is fits (inr (inl (inl up))) =
+    let f : Fits s v (Mapped up.es) = subst (Fits s v) up.value fits in
+    let m = may_slot (MayMap s v) up.gone.0 up.gone.1 up.es up.there f.2 in
+    rw up.goes_on (with_freed n (port_of up.gone) m.1 m.2 is)
+limited_noted s p x n v r is fits (inr (inl (inr full))) = rw full.goes_on (with_word n 10 is)
+limited_noted s p x n v r is fits (inr (inr (inl refused))) =
+    rw refused.goes_on
+    (with_freed (record n { port = 0 }) (source_key n) is.protocol is.port (with_port n 0 (omega arith) is))
+limited_noted s p x n v r is fits (inr (inr (inr late))) = rw late.goes_on (with_word n 10 is)
+
+pub touch_noted : (s : Settings) (p : Place) (x : NatValue) (n : Noted) (v : ℕ) → IsNoted n → Fits s v x
+    → IsNoted (touched_by s.limit p x n).1.noted
+touch_noted s p x n v is fits =
+    limited_noted s p x n v (touched_by s.limit p x n) is fits (touch_comes s v s.limit p x n fits)

@@ -25,7 +25,7 @@ use Rattle.nat_box.specs.declared.value.NatValue.{NatValue}
 use Rattle.nat_box.specs.declared.value.NatValue.TheVariants.{Dropped, Free, Mapped, Taken}
 use Rattle.nat_box.specs.Places.{place_numbered, noted, source_key}
 use Rattle.nat_box.specs.declared.place.Goes.{Goes}
-use Rattle.nat_box.specs.Nat.{Settings, touched, followed, reverse_table, local_at, fresh_value, nat_meaning, Fits}
+use Rattle.nat_box.specs.Nat.{Settings, touched_by, followed, reverse_table, local_at, fresh_value, nat_meaning, Fits}
 use Rattle.nat_box.specs.Noting.{place_again, IsNoted, is_noted, noted_again}
 use Rattle.nat_box.specs.Lawful.{AreSettings, var_of, touches_it, below_all, nat_lawful}
 use Rattle.nat_box.specs.PortStanding.{free_at, maps, maps_for, mapped_at, binds, binds_for, taken_at, bare, queued}
@@ -36,9 +36,10 @@ use Rattle.nat_box.specs.StaticLaws.{kept_apart}
 use Rattle.nat_box.proofs.StaticPlaces.{places_one, range_left, fresh_mapped, fresh_taken, ports_once}
 use Rattle.nat_box.proofs.StaticPlaces.{fresh_free}
 use Rattle.flow_boxes.proofs.Summing.{one_changes, sum_of_none, term_of_sum, sums_below}
-use Rattle.nat_box.proofs.Effects.{holds_none, seen, Shifts, IsPart, IsUnder, Own, touch_sound}
+use Rattle.nat_box.proofs.Effects.{holds_none, seen, Shifts, IsPart, IsUnder, Own, limited_sound}
 use Rattle.nat_box.proofs.Following.{seen_followed}
-use Rattle.nat_box.proofs.Noting.{touched_noted}
+use Rattle.nat_box.proofs.Noting.{touch_noted}
+use Rattle.nat_box.specs.LimitLaws.{touch_comes}
 use Rattle.nat_box.proofs.Moving.{HandNone, touching, Outcome, outcome}
 
 -- a hand that goes on as this: its numbers are those of where it goes
@@ -215,12 +216,12 @@ module _ (s : Settings) (is : AreSettings s) (threads : ℕ) (k : PortKey) (e : 
         let h : Hand = o.0 in
         let p : Place = place_numbered h.place.at in
         let n : Noted = noted h.place in
-        let r : NatValue × Goes = touched p (value w) n in
+        let r : NatValue × Goes = touched_by s.limit p (value w) n in
         let at : var_of s p n ≡ w = touches_it s p n w o.2 in
         let below : w < 2 + 2 * s.shards = subst (λ (u : ℕ). u < 2 + 2 * s.shards) at (below_all s p n is.some) in
         let was : (number : Place → Noted → ℕ) → in_hand number (thread t).hand ≡ number p n =
         λ number. ap (in_hand number) o.1 in
-        let fit : IsNoted r.1.noted = touched_noted s p (value w) n w (is_noted h.place) (fits w below) in
+        let fit : IsNoted r.1.noted = touch_noted s p (value w) n w (is_noted h.place) (fits w below) in
         let goes_on : (number : Place → Noted → ℕ) → in_hand number after.hand ≡ number r.1.place r.1.noted =
         λ number. ap (in_hand number) o.4 ∙ hand_number number h.packet r.1 fit in
         let own_is : Bool = w == reverse_table s k in
@@ -230,12 +231,13 @@ module _ (s : Settings) (is : AreSettings s) (threads : ℕ) (k : PortKey) (e : 
         let same : seen k e left r.1.place r.1.noted ≡ seen k e r.0 r.1.place r.1.noted =
         seen_followed k e s n r.0 r.1.place r.1.noted in
         let done : IsSound (places_of s k) z =
-        touch_sound s is.some k e (places_of s k) (places_one s k) own_is y z sound under p (value w) n w at refl
-        (fits w below) (range_left s is value fits k) (part w left below p n r.1 was goes_on)
-        (subst (λ (a : Tally). Shifts y z (seen k e (value w) p n) a) same (shifts w left below p n r.1 was goes_on))
-        (subst (λ (a : Tally). Own own_is y z (seen k e (value w) p n) a) same
-        (own w left below p n r.1 was goes_on own_is refl))
-        (touching s p n w o.2) in
+        limited_sound s is.some k e (places_of s k) (places_one s k) own_is y z sound under p (value w) n w r at refl
+        (fits w below) (range_left s is value fits k) (
+          part w left below p n r.1 was goes_on,
+          subst (λ (a : Tally). Shifts y z (seen k e (value w) p n) a) same (shifts w left below p n r.1 was goes_on),
+          subst (λ (a : Tally). Own own_is y z (seen k e (value w) p n) a) same
+              (own w left below p n r.1 was goes_on own_is refl),
+        ) (touching s p n w o.2) (touch_comes s w s.limit p (value w) n (fits w below)) in
         subst (λ (x : NatValue).
         IsSound (places_of s k) (tally_of s threads k e (λ v. cond (nat_eq w v) x (value v)) next_thread))
         (sym o.3) done

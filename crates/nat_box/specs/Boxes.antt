@@ -20,6 +20,7 @@ settings_of b = record {
   closing = b.closing;
   statics = b.statics;
   errors = b.errors;
+  limit = b.limit;
 }
 
 pub one_of_32 : 1 ≤ 32
@@ -40,6 +41,7 @@ box_with shards inside length outside low high = record {
   closing = None;
   statics = [];
   errors = false;
+  limit = None;
   some = at_least 1 shards 64;
   few = at_most 1 shards 64 one_of_64;
   long = at_least 1 length 32;
@@ -60,6 +62,10 @@ with_statics statics b = record b { statics = statics }
 -- the same box, with errors of ICMP or without
 abbrev pub with_errors : Bool → NatBox → NatBox
 with_errors errors b = record b { errors = errors }
+
+-- the same box, with this limit, or without one
+abbrev pub with_limit : Option ℕ → NatBox → NatBox
+with_limit limit b = record b { limit = limit }
 
 abbrev pub box_meaning : NatBox → Meaning NatValue
 box_meaning b = nat_meaning (settings_of b)

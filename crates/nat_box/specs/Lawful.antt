@@ -4,7 +4,7 @@ use Rattle.std.specs.Prelude.{◌∷◌}
 use Rattle.std.specs.Prelude.{◌++◌, length, take, drop, slice_index, Option, Some, None, Result, Ok, Err, ◌==◌, nat_lt}
 use Rattle.std.specs.Prelude.{refl, if◌then◌else◌}
 use Rattle.std.specs.List.{remove}
-use Rattle.std.proofs.Common.{arith, ap, sym, subst, ◌∙◌}
+use Rattle.std.proofs.Common.{arith, ap, sym, subst, ◌∙◌, inl, inr}
 use Rattle.std.proofs.lemmas.Grind.{common_steps}
 use Rattle.std.proofs.lemmas.Bool.Decides.{nat_tests}
 use Rattle.packet_headers.specs.declared.flow.Flow.{Flow}
@@ -37,7 +37,7 @@ use Rattle.nat_tables.specs.declared.phase.Phase.TheVariants.{EndedByClient, End
 use Rattle.nat_tables.specs.declared.phase.Segment.{Segment}
 use Rattle.nat_tables.specs.declared.phase.Segment.TheVariants.{Silent, Opens, Carries, Closes}
 use Rattle.nat_tables.specs.Phases.{phase_after}
-use Rattle.nat_tables.specs.Forwards.{refreshed, mark, AreMappings}
+use Rattle.nat_tables.specs.Forwards.{refreshed, mark, AreMappings, HasKept, found_there, without}
 use Rattle.nat_tables.specs.Reverses.{endpoint_of}
 use Rattle.nat_tables.proofs.Keeping.{keeps_refreshed, keeps_without, keeps_without_idle, keeps_bound, keeps_bind}
 use Rattle.nat_tables.proofs.Keeping.{keeps_unbind, keeps_marked}
@@ -61,6 +61,9 @@ use Rattle.nat_box.specs.Nat.{seen_by, begun_by, used_port, after_port, error_ou
 use Rattle.nat_box.specs.Nat.{begun, mapped, after_find, after_reserve, after_bind, touched, after_endpoint, looked_by}
 use Rattle.nat_box.specs.Nat.{looked, after_time, told, frame_out, bytes_out, local_at, fresh_value, nat_meaning}
 use Rattle.nat_box.specs.Nat.{MayMap, MayBind, HaveKept, Fits, HasPhase, followed_by, followed}
+use Rattle.nat_box.specs.Nat.{touched_by, kept_mappings}
+use Rattle.nat_box.specs.LimitLaws.{Comes, touch_comes, IsWithin}
+use Rattle.nat_box.specs.LimitLaws.{touch_within, within_fresh, within_followed}
 use Rattle.nat_box.specs.Statics.{inside_of, kept, outside_ports}
 use Rattle.nat_box.specs.StaticLaws.{fresh_mappings, fresh_kept, fresh_bound}
 use Rattle.nat_box.specs.Noting.{place_again, IsNoted, is_noted}
@@ -219,6 +222,15 @@ touch_falls_at s CountsDrop (Taken bs) n v e = omega arith
 touch_falls_at s SendsOut x n v e = absurd (cc)
 touch_falls_at s Ends x n v e = absurd (cc)
 touch_falls_at s FindsPort x n v e = absurd (cc)
+
+-- by what comes of it where hosts have a limit
+limited_falls : (s : Settings) (p : Place) (x : NatValue) (n : Noted) (v : ℕ) (r : NatValue × Goes)
+    → next_move s p n ≡ Access v → Comes s.limit p x n r → moves_left r.1.place < moves_left p
+limited_falls s p x n v r e (inl agrees) = rw agrees.same (touch_falls_at s p x n v e)
+limited_falls s p x n v r e (inr (inl (inl up))) = rw (up.at, up.goes_on) (omega arith)
+limited_falls s p x n v r e (inr (inl (inr full))) = rw (full.at, full.goes_on) (omega arith)
+limited_falls s p x n v r e (inr (inr (inl refused))) = rw (refused.at, refused.goes_on) (omega arith)
+limited_falls s p x n v r e (inr (inr (inr late))) = rw (late.at, late.goes_on) (omega arith)
 
 endpoint_falls : (n : Noted) (o : Option Endpoint) → moves_left (after_endpoint n o).place < 3
 endpoint_falls n (Some key) = omega arith
@@ -490,71 +502,124 @@ module _ (May : Endpoint → Slot → Type 0) where
   fits_bound key port now es None is again may all =
       keeps_bound May key (record { port = port; last = now; phase = Plain }) es is may all
 
+-- how many mappings the hosts of the settings may have in a table
+abbrev AreHostsWithin : Settings → ℕ → NatValue → Type 0
+AreHostsWithin s v x = IsWithin s.limit (kept_mappings s v (kept s.statics)) x
+
 touched_fits : (s : Settings) (p : Place) (x : NatValue) (n : Noted) (v : ℕ) → IsNoted n → var_of s p n ≡ v → Fits s v x
-    → Fits s v (touched p x n).0
-touched_fits s HearsTime x n v is e fits = fits
-touched_fits s FindsMapping (Dropped d) n v is e fits = fits
-touched_fits s FindsMapping (Free pool) n v is e fits = fits
-touched_fits s FindsMapping (Mapped es) n v is e fits = (
+    → AreHostsWithin s v (touched p x n).0 → Fits s v (touched p x n).0
+touched_fits s HearsTime x n v is e fits within = fits
+touched_fits s FindsMapping (Dropped d) n v is e fits within = fits
+touched_fits s FindsMapping (Free pool) n v is e fits within = fits
+touched_fits s FindsMapping (Mapped es) n v is e fits within = (
   fits.0,
   fits.1,
   fits_found (MayMap s v) n.source n.time es (slot_of n.source es) (first_idle n.time es)
       (λ slot may. may) fits.2,
   λ p is at. kept_found (inside_of p) p.outside n.source n.time es (slot_of n.source es) (first_idle n.time es) refl
       (fits.3 p is at),
+  within,
 )
-touched_fits s FindsMapping (Taken bs) n v is e fits = fits
-touched_fits s UnbindsFreed (Dropped d) n v is e fits = fits
-touched_fits s UnbindsFreed (Free pool) n v is e fits = fits
-touched_fits s UnbindsFreed (Mapped es) n v is e fits = fits
-touched_fits s UnbindsFreed (Taken bs) n v is e fits = (fits.0, keeps_unbind (MayBind s v) n.freed bs fits.1)
-touched_fits s GivesBackFreed (Dropped d) n v is e fits = fits
-touched_fits s GivesBackFreed (Free pool) n v is e fits =
+touched_fits s FindsMapping (Taken bs) n v is e fits within = fits
+touched_fits s UnbindsFreed (Dropped d) n v is e fits within = fits
+touched_fits s UnbindsFreed (Free pool) n v is e fits within = fits
+touched_fits s UnbindsFreed (Mapped es) n v is e fits within = fits
+touched_fits s UnbindsFreed (Taken bs) n v is e fits within = (fits.0, keeps_unbind (MayBind s v) n.freed bs fits.1)
+touched_fits s GivesBackFreed (Dropped d) n v is e fits within = fits
+touched_fits s GivesBackFreed (Free pool) n v is e fits within =
     let a = fits_given s n.freed.protocol n.freed.port pool is.freed_port (fits.1, fits.2, fits.3) in
     (fits.0, a.0, a.1, a.2)
-touched_fits s GivesBackFreed (Mapped es) n v is e fits = fits
-touched_fits s GivesBackFreed (Taken bs) n v is e fits = fits
-touched_fits s DrawsWord x n v is e fits = fits
-touched_fits s ReservesPort (Dropped d) n v is e fits = fits
-touched_fits s ReservesPort (Free pool) n v is e fits =
+touched_fits s GivesBackFreed (Mapped es) n v is e fits within = fits
+touched_fits s GivesBackFreed (Taken bs) n v is e fits within = fits
+touched_fits s DrawsWord x n v is e fits within = fits
+touched_fits s ReservesPort (Dropped d) n v is e fits within = fits
+touched_fits s ReservesPort (Free pool) n v is e fits within =
     let a = fits_reserved s n.source.protocol n.source.port n.word pool (fits.1, fits.2, fits.3) in
     (fits.0, a.0, a.1, a.2)
-touched_fits s ReservesPort (Mapped es) n v is e fits = fits
-touched_fits s ReservesPort (Taken bs) n v is e fits = fits
-touched_fits s BindsPort (Dropped d) n v is e fits = fits
-touched_fits s BindsPort (Free pool) n v is e fits = fits
-touched_fits s BindsPort (Mapped es) n v is e fits = fits
-touched_fits s BindsPort (Taken bs) n v is e fits =
+touched_fits s ReservesPort (Mapped es) n v is e fits within = fits
+touched_fits s ReservesPort (Taken bs) n v is e fits within = fits
+touched_fits s BindsPort (Dropped d) n v is e fits within = fits
+touched_fits s BindsPort (Free pool) n v is e fits within = fits
+touched_fits s BindsPort (Mapped es) n v is e fits within = fits
+touched_fits s BindsPort (Taken bs) n v is e fits within =
     (fits.0, keeps_bind (MayBind s v) (source_key n) n.source bs (sym e, is.address, is.source_port) fits.1)
-touched_fits s FindsOrBinds (Dropped d) n v is e fits = fits
-touched_fits s FindsOrBinds (Free pool) n v is e fits = fits
-touched_fits s FindsOrBinds (Mapped es) n v is e fits = (
+touched_fits s FindsOrBinds (Dropped d) n v is e fits within = fits
+touched_fits s FindsOrBinds (Free pool) n v is e fits within = fits
+touched_fits s FindsOrBinds (Mapped es) n v is e fits within = (
   fits.0,
   fits.1,
   fits_bound (MayMap s v) n.source n.port n.time es (slot_of n.source es) refl (λ slot may. may)
       (sym e, is.protocol, is.port, tt, λ q. absurd (cc)) fits.2,
   λ p is at. kept_bound (inside_of p) p.outside n.source n.port n.time es (slot_of n.source es) (fits.3 p is at),
+  within,
 )
-touched_fits s FindsOrBinds (Taken bs) n v is e fits = fits
-touched_fits s UnbindsLost (Dropped d) n v is e fits = fits
-touched_fits s UnbindsLost (Free pool) n v is e fits = fits
-touched_fits s UnbindsLost (Mapped es) n v is e fits = fits
-touched_fits s UnbindsLost (Taken bs) n v is e fits = (fits.0, keeps_unbind (MayBind s v) n.freed bs fits.1)
-touched_fits s GivesBackLost (Dropped d) n v is e fits = fits
-touched_fits s GivesBackLost (Free pool) n v is e fits =
+touched_fits s FindsOrBinds (Taken bs) n v is e fits within = fits
+touched_fits s UnbindsLost (Dropped d) n v is e fits within = fits
+touched_fits s UnbindsLost (Free pool) n v is e fits within = fits
+touched_fits s UnbindsLost (Mapped es) n v is e fits within = fits
+touched_fits s UnbindsLost (Taken bs) n v is e fits within = (fits.0, keeps_unbind (MayBind s v) n.freed bs fits.1)
+touched_fits s GivesBackLost (Dropped d) n v is e fits within = fits
+touched_fits s GivesBackLost (Free pool) n v is e fits within =
     let a = fits_given s n.freed.protocol n.freed.port pool is.freed_port (fits.1, fits.2, fits.3) in
     (fits.0, a.0, a.1, a.2)
-touched_fits s GivesBackLost (Mapped es) n v is e fits = fits
-touched_fits s GivesBackLost (Taken bs) n v is e fits = fits
-touched_fits s FindsEndpoint x n v is e fits = fits
-touched_fits s AsksIfLives x n v is e fits = fits
-touched_fits s CountsDrop (Dropped d) n v is e fits = fits
-touched_fits s CountsDrop (Free pool) n v is e fits = fits
-touched_fits s CountsDrop (Mapped es) n v is e fits = fits
-touched_fits s CountsDrop (Taken bs) n v is e fits = fits
-touched_fits s SendsOut x n v is e fits = fits
-touched_fits s Ends x n v is e fits = fits
-touched_fits s FindsPort x n v is e fits = fits
+touched_fits s GivesBackLost (Mapped es) n v is e fits within = fits
+touched_fits s GivesBackLost (Taken bs) n v is e fits within = fits
+touched_fits s FindsEndpoint x n v is e fits within = fits
+touched_fits s AsksIfLives x n v is e fits within = fits
+touched_fits s CountsDrop (Dropped d) n v is e fits within = fits
+touched_fits s CountsDrop (Free pool) n v is e fits within = fits
+touched_fits s CountsDrop (Mapped es) n v is e fits within = fits
+touched_fits s CountsDrop (Taken bs) n v is e fits within = fits
+touched_fits s SendsOut x n v is e fits within = fits
+touched_fits s Ends x n v is e fits within = fits
+touched_fits s FindsPort x n v is e fits within = fits
+
+-- a mapping that is idle is given up: it is of no static port
+up_kept : (key : Endpoint) (port : ℕ) (now : ℕ) (gone : Endpoint × Slot) (es : Forwards)
+    → slot_of gone.0 es ≡ Some gone.1 → is_idle now gone ≡ true → HasKept key port es
+    → HasKept key port (without gone.0 es)
+up_kept key port now gone es there idle has =
+    let first : Option (Endpoint × Slot) = first_idle now es in
+    subst (λ (t : Bool). HasKept key port (found_there gone.0 now es gone.1 t).1) idle
+    (kept_found key port gone.0 now es (Some gone.1) first there has)
+
+limited_fits : (s : Settings) (p : Place) (x : NatValue) (n : Noted) (v : ℕ) (r : NatValue × Goes) → IsNoted n
+    → var_of s p n ≡ v → Fits s v x → AreHostsWithin s v r.0 → Comes s.limit p x n r → Fits s v r.0
+limited_fits s p x n v r is e fits within (inl agrees) =
+    let w : AreHostsWithin s v (touched p x n).0 =
+    subst (λ (t : NatValue × Goes). AreHostsWithin s v t.0) agrees.same within in
+    rw agrees.same (touched_fits s p x n v is e fits w)
+limited_fits s p x n v r is e fits within (inr (inl (inl up))) =
+    let f : Fits s v (Mapped up.es) = subst (Fits s v) up.value fits in
+    let w : AreHostsWithin s v (Mapped (without up.gone.0 up.es)) =
+    subst (λ (t : NatValue × Goes). AreHostsWithin s v t.0) up.goes_on within in
+    rw up.goes_on (
+      f.0,
+      f.1,
+      keeps_without (MayMap s v) up.gone.0 up.es f.2,
+      λ q is at. up_kept (inside_of q) q.outside n.time up.gone up.es up.there up.idle (f.3 q is at),
+      w,
+    )
+limited_fits s p x n v r is e fits within (inr (inl (inr full))) =
+    rw full.goes_on (subst (Fits s v) full.value fits)
+limited_fits s p x n v r is e fits within (inr (inr (inl refused))) =
+    rw refused.goes_on (subst (Fits s v) refused.value fits)
+limited_fits s p x n v r is e fits within (inr (inr (inr late))) =
+    let f : Fits s v (Free late.pool) = subst (Fits s v) late.value fits in
+    let a = fits_given s n.freed.protocol n.freed.port late.pool is.freed_port (f.1, f.2, f.3) in
+    rw late.goes_on (f.0, a.0, a.1, a.2)
+
+hosts_within : (s : Settings) (v : ℕ) (x : NatValue) → Fits s v x → AreHostsWithin s v x
+hosts_within s v (Dropped d) fits = tt
+hosts_within s v (Free pool) fits = tt
+hosts_within s v (Mapped es) fits = fits.4
+hosts_within s v (Taken bs) fits = tt
+
+touch_by_fits : (s : Settings) (p : Place) (x : NatValue) (n : Noted) (v : ℕ) → IsNoted n → var_of s p n ≡ v
+    → Fits s v x → Fits s v (touched_by s.limit p x n).0
+touch_by_fits s p x n v is e fits =
+    let within = touch_within s v s.limit (kept_mappings s v (kept s.statics)) p x n fits (hosts_within s v x fits) in
+    limited_fits s p x n v (touched_by s.limit p x n) is e fits within (touch_comes s v s.limit p x n fits)
 
 -- the segment that is noted in a mapping
 
@@ -651,8 +716,13 @@ followed_kept s v n es (Some seconds) all = by (n.source.protocol == 6)
 value_fits : (s : Settings) (v : ℕ) (n : Noted) (x : NatValue) → Fits s v x → Fits s v (followed s n x)
 value_fits s v n (Dropped d) fits = fits
 value_fits s v n (Free pool) fits = fits
-value_fits s v n (Mapped es) fits =
-    (fits.0, fits.1, followed_fit s v n es s.closing refl fits.2, followed_kept s v n es s.closing fits.3)
+value_fits s v n (Mapped es) fits = (
+  fits.0,
+  fits.1,
+  followed_fit s v n es s.closing refl fits.2,
+  followed_kept s v n es s.closing fits.3,
+  within_followed s.limit (kept_mappings s v (kept s.statics)) s.closing n es fits.4,
+)
 value_fits s v n (Taken bs) fits = fits
 
 fresh_fits_at : (s : Settings) → AreSettings s → (v : ℕ) → Fits s v (fresh_value s v)
@@ -669,7 +739,13 @@ fresh_fits_at s is v = by (v == 0) (v == 1) (nat_lt v (2 + s.shards)) refl refl 
             small_without (outside_ports (kept s.statics)) protocol s.low (s.high + 1 - s.low)
             (omega (arith, is.order, is.high))
     by false false true e f g =
-        rw (e, f, g) (grind (arith, nat_tests), grind (arith, nat_tests), fresh_mappings s v, fresh_kept s v)
+        rw (e, f, g) (
+          grind (arith, nat_tests),
+          grind (arith, nat_tests),
+          fresh_mappings s v,
+          fresh_kept s v,
+          within_fresh s.limit (kept_mappings s v (kept s.statics)),
+        )
     by false false false e f g = rw (e, f, g) (grind (arith, nat_tests), fresh_bound s v)
 
 -- Frames keep their length
@@ -754,8 +830,9 @@ nat_lawful s is = record {
   reads_var = λ l v e. subst (λ (u : ℕ). u < 2 + 2 * s.shards) (reads_it s (place_numbered l.at) (noted l) v e)
       (below_all s (place_numbered l.at) (noted l) is.some);
   begins = λ p. rw (rank_at (begun s (seen_by s p))) (few_to_make s (seen_by s p));
-  touch_falls = λ v x l e f. rw (rank_at (touched (place_numbered l.at) x (noted l)).1)
-      (touch_falls_at s (place_numbered l.at) x (noted l) v e);
+  touch_falls = λ v x l e f. rw (rank_at (touched_by s.limit (place_numbered l.at) x (noted l)).1)
+      (limited_falls s (place_numbered l.at) x (noted l) v (touched_by s.limit (place_numbered l.at) x (noted l)) e
+      (touch_comes s v s.limit (place_numbered l.at) x (noted l) f));
   look_falls = λ v x l e f.
       rw (rank_at (looked (place_numbered l.at) x (noted l))) (look_falls_at s (place_numbered l.at) x (noted l) v e);
   clock_falls = λ a l e.
@@ -765,8 +842,8 @@ nat_lawful s is = record {
   emit_falls = λ l e. emit_falls_at s (place_numbered l.at) (noted l) e;
   ends = λ l e. ends_at s (place_numbered l.at) (noted l) e;
   fresh_fits = λ v _. fresh_fits_at s is v;
-  touch_fits = λ v x l e f. value_fits s v (noted l) (touched (place_numbered l.at) x (noted l)).0
-      (touched_fits s (place_numbered l.at) x (noted l) v (is_noted l)
+  touch_fits = λ v x l e f. value_fits s v (noted l) (touched_by s.limit (place_numbered l.at) x (noted l)).0
+      (touch_by_fits s (place_numbered l.at) x (noted l) v (is_noted l)
       (touches_it s (place_numbered l.at) (noted l) v e) f);
   as_long = λ p l e. long_out s p.bytes (noted l) (seen_by s p);
 }

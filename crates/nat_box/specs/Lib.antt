@@ -2,6 +2,7 @@ pub mod Places
 pub mod Statics
 pub mod Nat
 pub mod StaticLaws
+pub mod LimitLaws
 pub mod Starting
 pub mod Noting
 pub mod Lawful

@@ -50,6 +50,9 @@ pub struct NatBox {
     pub statics: ShortList<StaticPort>,
     /// Whether errors of ICMP about packets of a used mapping go through (RFC 5508, REQ-3 to REQ-6).
     pub errors: bool,
+    /// How many mappings of each protocol an inside address may have (RFC 6888, REQ-4). Where there is no such number,
+    /// as many as there are ports.
+    pub limit: Option<u32>,
     pub ghost some: { 1 ≤ shards },
     pub ghost few: { shards ≤ 64 },
     pub ghost long: { 1 ≤ length },
@@ -62,9 +65,9 @@ pub struct NatBox {
 impl NatBox {
     ghost use Rattle.std.specs.Prelude.{◌≡◌, ◌≤◌};
     ghost use Rattle.nat_box.specs.Nat.{is_inside, class_of_flow, class_of_error};
-    ghost use Rattle.nat_box.specs.Nat.{forward_table, reverse_table};
+    ghost use Rattle.nat_box.specs.Nat.{forward_table, reverse_table, table_sum};
     ghost use Rattle.nat_box.specs.Boxes.{settings_of, box_with, with_closing};
-    ghost use Rattle.nat_box.specs.Boxes.{with_statics, with_errors};
+    ghost use Rattle.nat_box.specs.Boxes.{with_statics, with_errors, with_limit};
 
     /// The box with this number of tables of each kind, this inside network, outside address and range of outside
     /// ports. It does not follow connections.
@@ -92,6 +95,7 @@ impl NatBox {
                 outside: 0,
             }),
             errors: false,
+            limit: None,
         }
     }
 
@@ -109,6 +113,7 @@ impl NatBox {
             closing,
             statics: self.statics,
             errors: self.errors,
+            limit: self.limit,
         }
     }
 
@@ -126,6 +131,7 @@ impl NatBox {
             closing: self.closing,
             statics,
             errors: self.errors,
+            limit: self.limit,
         }
     }
 
@@ -143,6 +149,25 @@ impl NatBox {
             closing: self.closing,
             statics: self.statics,
             errors,
+            limit: self.limit,
+        }
+    }
+
+    /// The same box, where an inside address may have so many mappings of each protocol.
+    pub fn with_limit(self, limit: Option<u32>) -> Self
+        ensures { result ≡ with_limit limit self }
+    {
+        NatBox {
+            shards: self.shards,
+            inside: self.inside,
+            length: self.length,
+            outside: self.outside,
+            low: self.low,
+            high: self.high,
+            closing: self.closing,
+            statics: self.statics,
+            errors: self.errors,
+            limit,
         }
     }
 
@@ -179,12 +204,23 @@ impl NatBox {
         }
     }
 
+    /// The number that says in which forward table the mapping of an endpoint is. Where hosts have a limit, it is the
+    /// same for all ports of a host, so that one table has all its mappings of a protocol.
+    fn table_sum(&self, key: &Endpoint) -> u64
+        ensures { result ≡ table_sum (settings_of self.now).limit key.now }
+    {
+        let host = u64::from(key.protocol) + u64::from(key.address);
+        match self.limit {
+            Some(_) => host,
+            None => host + u64::from(key.port),
+        }
+    }
+
     /// The forward table of an inside endpoint.
     pub(crate) fn forward_table(&self, key: &Endpoint) -> u32
         ensures { result ≡ forward_table (settings_of self.now) key.now }
     {
-        let sum = u64::from(key.protocol) + u64::from(key.address) + u64::from(key.port);
-        2 + (sum % u64::from(self.shards)) as u32
+        2 + (self.table_sum(key) % u64::from(self.shards)) as u32
     }
 
     /// The reverse table of an outside port.

@@ -73,9 +73,9 @@ impl Program for NatBox {
         let noted = Noted::read_from(local);
         let goes = match value {
             NatValue::Dropped(drops) => noted.touch_drops(place, drops),
-            NatValue::Free(pool) => noted.touch_pool(place, pool),
+            NatValue::Free(pool) => noted.touch_pool(self.limit, place, pool),
             NatValue::Mapped(table) => {
-                let goes = noted.touch_mappings(place, table)?;
+                let goes = noted.touch_mappings(self.limit, place, table)?;
                 self.follow(&noted, table);
                 goes
             }

@@ -7,7 +7,7 @@ ghost use Rattle.nat_box.specs.Starting.{mapped_one, mapped_all, bound_one, boun
 ghost use Rattle.nat_box.specs.Boxes.{settings_of};
 
 use crate::{NatBox, StaticPort};
-use nat_tables::{Endpoint, Forward, Pool, PortKey, Reverse};
+use nat_tables::{Endpoint, Mappings, Pool, PortKey, Reverse};
 use plain_text::NoMemory;
 use std::alloc::Global;
 
@@ -88,7 +88,7 @@ fn outside_ports(alloc: Global, ports: &[StaticPort]) -> Result<Vec<PortKey>, No
 
 impl NatBox {
     /// Puts a static port into a forward table of this number, where it is that of its endpoint.
-    fn keep_in(&self, port: StaticPort, var: u32, table: &mut Forward) -> Result<(), NoMemory>
+    fn keep_in(&self, port: StaticPort, var: u32, table: &mut Mappings) -> Result<(), NoMemory>
         ensures { OnOk result
             (table.new ≡ mapped_one (settings_of self.now) var port table.old) }
     {
@@ -105,11 +105,11 @@ impl NatBox {
         alloc: Global,
         ports: &[StaticPort],
         var: u32,
-    ) -> Result<Forward, NoMemory>
+    ) -> Result<Mappings, NoMemory>
         ensures { IfOk result (λ table. table
             ≡ mapped_all (settings_of self.now) var ports.now []) }
     {
-        let mut table = Forward::new(alloc);
+        let mut table = Mappings::new(alloc, self.limit.is_some());
         for port in ports {
             self.keep_in(*port, var, &mut table)?;
         }
@@ -151,7 +151,7 @@ impl NatBox {
     }
 
     /// A forward table at the start: the static ports of its endpoints.
-    pub(crate) fn fresh_mappings(&self, alloc: Global, var: u32) -> Result<Forward, NoMemory>
+    pub(crate) fn fresh_mappings(&self, alloc: Global, var: u32) -> Result<Mappings, NoMemory>
         ensures { IfOk result (λ table. table
             ≡ kept_mappings (settings_of self.now) var (kept self.now.statics)) }
     {

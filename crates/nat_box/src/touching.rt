@@ -1,14 +1,18 @@
-ghost use Rattle.std.specs.Prelude.{◌≡◌, IfOk, OnErr};
+ghost use Rattle.std.specs.Prelude.{◌≡◌, ℕ, IfOk, OnErr, Option, Some, None, ◌==◌};
 ghost use Rattle.nat_box.specs.Nat.{goes, dropped, mapped, after_find, after_reserve, after_bind};
-ghost use Rattle.nat_box.specs.Nat.{touched, after_endpoint, looked, told, followed_by};
-ghost use Rattle.nat_box.specs.Nat.{looked_by, used_port, after_port};
+ghost use Rattle.nat_box.specs.Nat.{after_endpoint, looked, told, followed_by};
+ghost use Rattle.nat_box.specs.Nat.{looked_by, used_port, after_port, touched_by};
+ghost use Rattle.nat_box.specs.Nat.{after_find_within, after_bind_within, after_lost};
+ghost use Rattle.nat_box.specs.declared.place.Place.TheVariants.{FindsMapping, FindsOrBinds};
+ghost use Rattle.nat_box.specs.declared.place.Place.TheVariants.{UnbindsLost};
+ghost use Rattle.nat_box.specs.Places.{source_key};
 ghost use Rattle.nat_tables.specs.Forwards.{lives};
 ghost use Rattle.nat_box.specs.Boxes.{settings_of};
 ghost use Rattle.nat_box.specs.declared.value.NatValue.TheVariants.{Dropped, Free, Mapped, Taken};
 
 use crate::{Class, Goes, NatBox, Noted, Place};
 use flow_boxes::Drops;
-use nat_tables::{Bind, Endpoint, Find, Forward, Freed, Pool, Reverse};
+use nat_tables::{Bind, Endpoint, Find, Freed, Mappings, Pool, Reverse};
 use plain_text::NoMemory;
 
 /// The reason for which a packet is dropped that goes to a port with no mapping.
@@ -16,6 +20,9 @@ const NO_MAPPING: u64 = 7;
 
 /// The reason for which a packet is dropped that finds no free port.
 const NO_FREE_PORT: u64 = 8;
+
+/// The reason for which a packet is dropped that needs one mapping more than its host may have.
+const OVER_LIMIT: u64 = 10;
 
 impl Goes {
     pub(crate) fn to(place: Place, noted: Noted) -> Goes
@@ -70,23 +77,60 @@ impl Noted {
         }
     }
 
+    /// The port in hand is given up; this port is noted in its place.
+    fn loses(self, port: u16) -> Goes
+        ensures { result
+            ≡ goes UnbindsLost (record self { port = port; freed = source_key self }) }
+    {
+        let freed: Freed = self.source_key();
+        Goes::to(
+            Place::UnbindsLost,
+            Noted {
+                port,
+                freed,
+                ..self
+            },
+        )
+    }
+
     /// A port that another packet's mapping made needless is given up.
     fn after_bind(self, bind: Bind) -> Goes
         ensures { result ≡ after_bind self bind }
     {
         match bind {
             Bind::Bound => self.mapped(),
-            Bind::Other(port) => {
-                let freed: Freed = self.source_key();
-                Goes::to(
-                    Place::UnbindsLost,
-                    Noted {
-                        port,
-                        freed,
-                        ..self
-                    },
-                )
-            }
+            Bind::Other(port) => self.loses(port),
+        }
+    }
+
+    /// Where each host has at most so many mappings: a packet of a host that can have no further one is dropped.
+    fn after_find_within(self, most: u32, found: Find, table: &Mappings) -> Goes
+        ensures { result ≡ after_find_within most self found table.now }
+    {
+        match found {
+            Find::Absent(None) if table.is_full(most, &self.source) => self.dropped(OVER_LIMIT),
+            Find::Absent(_) | Find::Live(_) => self.after_find(found),
+        }
+    }
+
+    /// Another packet was quicker, and the host can have no further mapping: the port in hand is given up.
+    fn after_bind_within(self, bind: Option<Bind>) -> Goes
+        ensures { result ≡ after_bind_within self bind }
+    {
+        match bind {
+            Some(bind) => self.after_bind(bind),
+            None => self.loses(0),
+        }
+    }
+
+    /// The port that it took in vain is given back. Its source has its mapping, or could have none.
+    fn after_lost(self) -> Goes
+        ensures { result ≡ after_lost self (self.port == 0) }
+    {
+        if self.port == 0 {
+            self.dropped(OVER_LIMIT)
+        } else {
+            self.mapped()
         }
     }
 
@@ -107,7 +151,7 @@ impl Noted {
     }
 
     /// The port of its source's mapping, where there is one that is not idle. It refreshes nothing.
-    fn used_port(&self, table: &Forward) -> Option<u16>
+    fn used_port(&self, table: &Mappings) -> Option<u16>
         ensures { result ≡ used_port self.now.source self.now.time table.now }
     {
         match table.slot_of(&self.source) {
@@ -126,7 +170,7 @@ impl Noted {
     }
 
     /// Whether the mapping of the endpoint that it goes to lives in a forward table.
-    fn after_asking(self, table: &Forward) -> Goes
+    fn after_asking(self, table: &Mappings) -> Goes
         ensures { result
             ≡ looked_by self (lives self.target self.dest_port self.time table.now) }
     {
@@ -139,7 +183,8 @@ impl Noted {
 
     /// Touches the counts of drops.
     pub(crate) fn touch_drops(self, place: Place, drops: &mut Drops) -> Goes
-        ensures { (Dropped drops.new, result) ≡ touched place (Dropped drops.old) self }
+        ensures { (limit : Option ℕ)
+            → (Dropped drops.new, result) ≡ touched_by limit place (Dropped drops.old) self }
     {
         if place == Place::CountsDrop {
             drops.add(self.word);
@@ -148,8 +193,8 @@ impl Noted {
     }
 
     /// Touches the pool.
-    pub(crate) fn touch_pool(self, place: Place, pool: &mut Pool) -> Goes
-        ensures { (Free pool.new, result) ≡ touched place (Free pool.old) self }
+    pub(crate) fn touch_pool(self, limit: Option<u32>, place: Place, pool: &mut Pool) -> Goes
+        ensures { (Free pool.new, result) ≡ touched_by limit place (Free pool.old) self }
     {
         match place {
             Place::ReservesPort => {
@@ -161,32 +206,69 @@ impl Noted {
             }
             Place::GivesBackLost => {
                 pool.give_back(self.freed.protocol, self.freed.port);
-                self.mapped()
+                match limit {
+                    Some(_) => self.after_lost(),
+                    None => self.mapped(),
+                }
             }
             _ => Goes::to(Place::Ends, self),
         }
     }
 
-    /// Touches a forward table.
-    pub(crate) fn touch_mappings(self, place: Place, table: &mut Forward) -> Result<Goes, NoMemory>
+    /// It looks its source up in the source's forward table.
+    fn finds(self, limit: Option<u32>, table: &mut Mappings) -> Goes
+        ensures { (Mapped table.new, result)
+            ≡ touched_by limit FindsMapping (Mapped table.old) self }
+    {
+        match limit {
+            Some(most) => {
+                let found = table.find_within(most, &self.source, self.time);
+                self.after_find_within(most, found, table)
+            }
+            None => self.after_find(table.find(&self.source, self.time)),
+        }
+    }
+
+    /// It maps its source to the port in hand, unless the source has a mapping by now, or its host no room for one.
+    fn binds(self, limit: Option<u32>, table: &mut Mappings) -> Result<Goes, NoMemory>
         ensures ok { IfOk result (λ goes. (Mapped table.new, goes)
-            ≡ touched place (Mapped table.old) self) }
+            ≡ touched_by limit FindsOrBinds (Mapped table.old) self) }
         ensures err { OnErr result (table.new ≡ table.old) }
     {
-        match place {
-            Place::FindsMapping => Ok(self.after_find(table.find(&self.source, self.time))),
-            Place::FindsOrBinds => {
+        match limit {
+            Some(most) => {
+                let bind = table.bind_within(most, &self.source, self.port, self.time)?;
+                Ok(self.after_bind_within(bind))
+            }
+            None => {
                 let bind = table.find_or_bind(&self.source, self.port, self.time)?;
                 Ok(self.after_bind(bind))
             }
+        }
+    }
+
+    /// Touches a forward table.
+    pub(crate) fn touch_mappings(
+        self,
+        limit: Option<u32>,
+        place: Place,
+        table: &mut Mappings,
+    ) -> Result<Goes, NoMemory>
+        ensures ok { IfOk result (λ goes. (Mapped table.new, goes)
+            ≡ touched_by limit place (Mapped table.old) self) }
+        ensures err { OnErr result (table.new ≡ table.old) }
+    {
+        match place {
+            Place::FindsMapping => Ok(self.finds(limit, table)),
+            Place::FindsOrBinds => self.binds(limit, table),
             _ => Ok(Goes::to(Place::Ends, self)),
         }
     }
 
     /// Touches a reverse table.
     pub(crate) fn touch_bound(self, place: Place, table: &mut Reverse) -> Result<Goes, NoMemory>
-        ensures ok { IfOk result (λ goes. (Taken table.new, goes)
-            ≡ touched place (Taken table.old) self) }
+        ensures ok { IfOk result (λ goes. (limit : Option ℕ)
+            → (Taken table.new, goes) ≡ touched_by limit place (Taken table.old) self) }
         ensures err { OnErr result (table.new ≡ table.old) }
     {
         match place {
@@ -208,7 +290,7 @@ impl Noted {
 
     /// Reads a forward table: whether the mapping of the endpoint that the packet goes to lives; or, of an error that
     /// goes out, the port of its source. It refreshes nothing.
-    pub(crate) fn look_at_mappings(self, place: Place, table: &Forward) -> Goes
+    pub(crate) fn look_at_mappings(self, place: Place, table: &Mappings) -> Goes
         ensures { result ≡ looked place (Mapped table.now) self }
     {
         match place {
@@ -258,7 +340,7 @@ impl Noted {
 
 impl NatBox {
     /// Notes a packet's segment in the mapping of its source, where connections are followed and it is of TCP.
-    pub(crate) fn follow(&self, noted: &Noted, table: &mut Forward)
+    pub(crate) fn follow(&self, noted: &Noted, table: &mut Mappings)
         ensures { table.new ≡ followed_by (settings_of self.now).closing noted.now table.old }
     {
         let Some(seconds) = self.closing else {
