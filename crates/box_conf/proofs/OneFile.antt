@@ -14,7 +14,7 @@ use Rattle.box_conf.specs.declared.kind.BoxConf.{BoxConf}
 use Rattle.box_conf.specs.declared.kind.KindWord.{KindWord}
 use Rattle.box_conf.specs.declared.kind.KindWord.TheVariants as kind
 use Rattle.box_conf.specs.declared.names.Named.{Named}
-use Rattle.box_conf.specs.declared.table.BoxLine.TheVariants.{Threads, Seed, Shards, Inside, Outside, Ports, Closing}
+use Rattle.box_conf.specs.declared.table.BoxLine.TheVariants.{Threads, Seed, Shards, Inside, Outside, Ports, Closing, Limit}
 use Rattle.box_conf.specs.declared.table.BoxLine.TheVariants.{Icmp, Static, Virtual, Backend}
 use Rattle.box_conf.specs.declared.table.BoxLine.{BoxLine}
 use Rattle.box_conf.specs.Names.{named_in, names_fault, no_names}
@@ -70,6 +70,7 @@ of_once values others Inside = values Inside
 of_once values others Outside = values Outside
 of_once values others Ports = values Ports
 of_once values others Closing = values Closing
+of_once values others Limit = values Limit
 of_once values others Icmp = values Icmp
 of_once values others Static = others Static
 of_once values others Virtual = values Virtual
@@ -104,6 +105,7 @@ of_one_kind text kind a b x y =
     same Outside = one Outside refl
     same Ports = one Ports refl
     same Closing = one Closing refl
+    same Limit = one Limit refl
     same Icmp = one Icmp refl
     same Static = refl
     same Virtual = one Virtual refl

@@ -9,7 +9,7 @@ use Rattle.plain_text.proofs.Addresses.{address_small}
 use Rattle.box_conf.specs.declared.kind.KindWord.{KindWord}
 use Rattle.box_conf.specs.declared.settings.Settings.{Settings}
 use Rattle.box_conf.specs.declared.table.BoxLine.{BoxLine}
-use Rattle.box_conf.specs.declared.table.BoxLine.TheVariants.{Threads, Seed, Shards, Inside, Outside, Ports, Closing}
+use Rattle.box_conf.specs.declared.table.BoxLine.TheVariants.{Threads, Seed, Shards, Inside, Outside, Ports, Closing, Limit}
 use Rattle.box_conf.specs.declared.table.BoxLine.TheVariants.{Icmp, Static, Virtual, Backend}
 use Rattle.box_conf.specs.declared.table.Values.{Values}
 use Rattle.box_conf.specs.Kinds.{rows_of}
@@ -94,6 +94,7 @@ says_within Ports words values s f =
     (ends.0, in_order (values_from values).first (values_from values).second f, ends.1)
 says_within Closing words values s f =
     let ends = one_within 1 (2 ^ 32 - 1) words values s in omega (arith, ends.1)
+says_within Limit words values s f = (one_within 1 65535 words values s).1
 says_within Icmp words values s f = tt
 says_within Static words values s f = static_within words values s
 says_within Virtual words values s f = end_within words values s

@@ -17,7 +17,7 @@ use Rattle.box_conf.specs.declared.kind.BoxConf.{BoxConf}
 use Rattle.box_conf.specs.declared.settings.Settings.{Settings}
 use Rattle.box_conf.specs.declared.kind.KindWord.{KindWord}
 use Rattle.box_conf.specs.declared.table.BoxLine.{BoxLine}
-use Rattle.box_conf.specs.declared.table.BoxLine.TheVariants.{Threads, Seed, Shards, Inside, Outside, Ports, Closing}
+use Rattle.box_conf.specs.declared.table.BoxLine.TheVariants.{Threads, Seed, Shards, Inside, Outside, Ports, Closing, Limit}
 use Rattle.box_conf.specs.declared.table.BoxLine.TheVariants.{Icmp, Static, Virtual, Backend}
 use Rattle.box_conf.specs.declared.table.Values.{Values}
 use Rattle.box_conf.specs.Names.{named_in}
@@ -36,7 +36,7 @@ Line = ℕ × List ℕ
 
 abbrev line_in : List ℕ → Option BoxLine
 line_in word = find (λ line. bytes_eq word (word_of line))
-    (Threads ∷ Seed ∷ Shards ∷ Inside ∷ Outside ∷ Ports ∷ Closing ∷ Icmp ∷ Static ∷ Virtual ∷ Backend ∷ [])
+    (Threads ∷ Seed ∷ Shards ∷ Inside ∷ Outside ∷ Ports ∷ Closing ∷ Limit ∷ Icmp ∷ Static ∷ Virtual ∷ Backend ∷ [])
 
 line_back : (line : BoxLine) → line_in (word_of line) ≡ Some line
 line_back Threads = refl
@@ -46,6 +46,7 @@ line_back Inside = refl
 line_back Outside = refl
 line_back Ports = refl
 line_back Closing = refl
+line_back Limit = refl
 line_back Icmp = refl
 line_back Static = refl
 line_back Virtual = refl
@@ -71,6 +72,7 @@ set_or s Inside Inside v = inr (refl, refl)
 set_or s Outside Outside v = inr (refl, refl)
 set_or s Ports Ports v = inr (refl, refl)
 set_or s Closing Closing v = inr (refl, refl)
+set_or s Limit Limit v = inr (refl, refl)
 set_or s Icmp Icmp v = inr (refl, refl)
 set_or s Static Static v = inr (refl, refl)
 set_or s Virtual Virtual v = inr (refl, refl)
@@ -82,6 +84,7 @@ set_or s Inside other v = inl ((λ e. cc), refl)
 set_or s Outside other v = inl ((λ e. cc), refl)
 set_or s Ports other v = inl ((λ e. cc), refl)
 set_or s Closing other v = inl ((λ e. cc), refl)
+set_or s Limit other v = inl ((λ e. cc), refl)
 set_or s Icmp other v = inl ((λ e. cc), refl)
 set_or s Static other v = inl ((λ e. cc), refl)
 set_or s Virtual other v = inl ((λ e. cc), refl)
@@ -336,6 +339,7 @@ begins kind first rest n index rising names = record {
     unset Outside = none_of Outside
     unset Ports = none_of Ports
     unset Closing = none_of Closing
+    unset Limit = none_of Limit
     unset Icmp = none_of Icmp
     unset Static = none_of Static
     unset Virtual = none_of Virtual

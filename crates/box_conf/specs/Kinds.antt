@@ -27,7 +27,7 @@ use Rattle.box_conf.specs.declared.names.Named.{Named}
 use Rattle.box_conf.specs.declared.settings.Settings.{Settings}
 use Rattle.box_conf.specs.declared.table.BoxLine.{BoxLine}
 use Rattle.box_conf.specs.declared.table.BoxLine.TheVariants as line
-use Rattle.box_conf.specs.declared.table.BoxLine.TheVariants.{Threads, Seed, Shards, Inside, Outside, Ports, Closing}
+use Rattle.box_conf.specs.declared.table.BoxLine.TheVariants.{Threads, Seed, Shards, Inside, Outside, Ports, Closing, Limit}
 use Rattle.box_conf.specs.declared.table.BoxLine.TheVariants.{Icmp, Static, Virtual}
 use Rattle.box_conf.specs.declared.table.Values.{Values}
 use Rattle.box_conf.specs.Settings.{setting}
@@ -47,25 +47,26 @@ kind_word kind.Balancer = codes "balancer"
 abbrev pub lines_of : KindWord → List BoxLine
 lines_of kind.Count = Threads ∷ Seed ∷ []
 lines_of kind.Monitor = Threads ∷ Seed ∷ Shards ∷ []
-lines_of kind.Nat = Threads ∷ Seed ∷ Shards ∷ Inside ∷ Outside ∷ Ports ∷ Closing ∷ Icmp ∷ Static ∷ []
+lines_of kind.Nat = Threads ∷ Seed ∷ Shards ∷ Inside ∷ Outside ∷ Ports ∷ Closing ∷ Limit ∷ Icmp ∷ Static ∷ []
 lines_of kind.Balancer = Threads ∷ Seed ∷ Shards ∷ Virtual ∷ line.Backend ∷ Closing ∷ []
 
--- the seconds of the line `closing`; none where it is not there
-abbrev pub seconds_of : ℕ → Option ℕ
-seconds_of number = if number == 0 then None else Some number
+-- the number of a line such as `closing`; none where it is not there
+abbrev pub number_of : ℕ → Option ℕ
+number_of number = if number == 0 then None else Some number
 
 -- the first word behind `icmp` lets errors through
 abbrev pub nat_from : (BoxLine → Values) → List StaticPort → NatBox
 nat_from values statics =
-    nat.with_errors ((values Icmp).first == 0)
+    nat.with_limit (number_of (values Limit).first)
+    (nat.with_errors ((values Icmp).first == 0)
     (nat.with_statics statics
-    (nat.with_closing (seconds_of (values Closing).first)
+    (nat.with_closing (number_of (values Closing).first)
     (nat.box_with (values Shards).first (values Inside).first (values Inside).second (values Outside).first
-    (values Ports).first (values Ports).second)))
+    (values Ports).first (values Ports).second))))
 
 abbrev pub balancer_from : (BoxLine → Values) → List Backend → BalancerBox
 balancer_from values backends =
-    balancer.with_closing (seconds_of (values Closing).first)
+    balancer.with_closing (number_of (values Closing).first)
     (balancer.box_with (values Shards).first (values Virtual).first (values Virtual).second backends)
 
 -- the box, where the lines have these values and these names

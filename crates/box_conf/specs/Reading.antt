@@ -71,6 +71,7 @@ no_settings = record {
   outside = None;
   ports = None;
   closing = None;
+  limit = None;
   icmp = None;
   static_port = None;
   virtual_end = None;

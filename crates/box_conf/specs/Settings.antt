@@ -7,7 +7,7 @@ use Rattle.plain_text.specs.Grammar.{form_fault, misfit, range_fault, row_fault,
 use Rattle.box_conf.specs.declared.settings.ReadValues.{ReadValues}
 use Rattle.box_conf.specs.declared.settings.Settings.{Settings}
 use Rattle.box_conf.specs.declared.table.BoxLine.{BoxLine}
-use Rattle.box_conf.specs.declared.table.BoxLine.TheVariants.{Threads, Seed, Shards, Inside, Outside, Ports, Closing}
+use Rattle.box_conf.specs.declared.table.BoxLine.TheVariants.{Threads, Seed, Shards, Inside, Outside, Ports, Closing, Limit}
 use Rattle.box_conf.specs.declared.table.BoxLine.TheVariants.{Icmp, Static, Virtual, Backend}
 use Rattle.box_conf.specs.declared.table.LinePlace.{LinePlace}
 use Rattle.box_conf.specs.declared.table.Values.{Values}
@@ -21,6 +21,7 @@ setting s Inside = s.inside
 setting s Outside = s.outside
 setting s Ports = s.ports
 setting s Closing = s.closing
+setting s Limit = s.limit
 setting s Icmp = s.icmp
 setting s Static = s.static_port
 setting s Virtual = s.virtual_end
@@ -34,6 +35,7 @@ with_setting s Inside values = record s { inside = Some values }
 with_setting s Outside values = record s { outside = Some values }
 with_setting s Ports values = record s { ports = Some values }
 with_setting s Closing values = record s { closing = Some values }
+with_setting s Limit values = record s { limit = Some values }
 with_setting s Icmp values = record s { icmp = Some values }
 with_setting s Static values = record s { static_port = Some values }
 with_setting s Virtual values = record s { virtual_end = Some values }
@@ -104,6 +106,7 @@ IsWithin Inside values = (values.first < 2 ^ 32) × (1 ≤ values.second) × (va
 IsWithin Outside values = values.first < 2 ^ 32
 IsWithin Ports values = (1 ≤ values.first) × (values.first ≤ values.second) × (values.second ≤ 65535)
 IsWithin Closing values = values.first < 2 ^ 32
+IsWithin Limit values = values.first ≤ 65535
 IsWithin Icmp values = Unit {0}
 IsWithin Static values = (values.second < 2 ^ 32) × (values.third ≤ 65535) × (values.fourth ≤ 65535)
 IsWithin Virtual values = (values.first < 2 ^ 32) × (values.second ≤ 65535)

@@ -6,7 +6,7 @@ use Rattle.std.specs.Prelude.{Option, Some, None}
 use Rattle.plain_text.specs.Grammar.{Place, Row}
 use Rattle.plain_text.specs.Grammar as place
 use Rattle.box_conf.specs.declared.table.BoxLine.{BoxLine}
-use Rattle.box_conf.specs.declared.table.BoxLine.TheVariants.{Threads, Seed, Shards, Inside, Outside, Ports, Closing}
+use Rattle.box_conf.specs.declared.table.BoxLine.TheVariants.{Threads, Seed, Shards, Inside, Outside, Ports, Closing, Limit}
 use Rattle.box_conf.specs.declared.table.BoxLine.TheVariants.{Icmp, Static, Virtual, Backend}
 use Rattle.box_conf.specs.declared.table.LinePlace.{LinePlace}
 use Rattle.box_conf.specs.declared.table.LinePlace.TheVariants.{Number, Address, Protocol, Errors}
@@ -22,6 +22,7 @@ word_of Inside = codes "inside"
 word_of Outside = codes "outside"
 word_of Ports = codes "ports"
 word_of Closing = codes "closing"
+word_of Limit = codes "limit"
 word_of Icmp = codes "icmp"
 word_of Static = codes "static"
 word_of Virtual = codes "virtual"
@@ -35,6 +36,7 @@ places_of Inside = Address ∷ Number 1 32 ∷ []
 places_of Outside = Address ∷ []
 places_of Ports = Number 1 65535 ∷ Number 1 65535 ∷ []
 places_of Closing = Number 1 (2 ^ 32 - 1) ∷ []
+places_of Limit = Number 1 65535 ∷ []
 places_of Icmp = Errors ∷ []
 places_of Static = Protocol ∷ Address ∷ Number 1 65535 ∷ Number 1 65535 ∷ []
 places_of Virtual = Address ∷ Number 0 65535 ∷ []
@@ -49,6 +51,7 @@ fits_of Inside values = true
 fits_of Outside values = true
 fits_of Ports values = nat_le values.first values.second
 fits_of Closing values = true
+fits_of Limit values = true
 fits_of Icmp values = true
 fits_of Static values = true
 fits_of Virtual values = true
@@ -63,6 +66,7 @@ again_of Inside = false
 again_of Outside = false
 again_of Ports = false
 again_of Closing = false
+again_of Limit = false
 again_of Icmp = false
 again_of Static = true
 again_of Virtual = false
@@ -77,6 +81,7 @@ usual_of Inside = None
 usual_of Outside = None
 usual_of Ports = Some (1024 ∷ 65535 ∷ [])
 usual_of Closing = Some (0 ∷ [])
+usual_of Limit = Some (0 ∷ [])
 usual_of Icmp = Some (1 ∷ [])
 usual_of Static = Some []
 usual_of Virtual = None

@@ -30,6 +30,7 @@ const BOX: &[u8] = b"box";
 /// | `outside ADDRESS` | `nat` | any address | a fault |
 /// | `ports LOW HIGH` | `nat` | 1 to 65,535, LOW at most HIGH | 1024 65535 |
 /// | `closing SECONDS` | `nat`, `balancer` | 1 to 4,294,967,295 | connections are not followed |
+/// | `limit N` | `nat` | 1 to 65,535 | a host has as many mappings as there are ports |
 /// | `icmp errors` | `nat` | | errors of ICMP are dropped |
 /// | `static PROTOCOL ADDRESS PORT OUTSIDE_PORT` | `nat` | `tcp` or `udp`, ports of 1 to 65,535 | there is none |
 /// | `virtual ADDRESS PORT` | `balancer` | a port of 0 to 65,535 | a fault |
@@ -106,6 +107,7 @@ fn read_settings(text: &[u8]) -> Result<SetLines, LineFault>
         outside: None,
         ports: None,
         closing: None,
+        limit: None,
         icmp: None,
         static_port: None,
         virtual_end: None,

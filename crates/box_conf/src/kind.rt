@@ -1,6 +1,6 @@
 ghost use Rattle.std.specs.Prelude.{◌≡◌, ◌≤◌, ◌<◌, ◌^◌, true, None, is_some, length};
 ghost use Rattle.box_conf.specs.Kinds.{kind_named, lines_of, line_named, missing_line, box_from};
-ghost use Rattle.box_conf.specs.Kinds.{seconds_of, nat_from, balancer_from, IsBalancer};
+ghost use Rattle.box_conf.specs.Kinds.{number_of, nat_from, balancer_from, IsBalancer};
 ghost use Rattle.box_conf.specs.Settings.{AreInRange, setting, values_set};
 ghost use Rattle.box_conf.specs.declared.table.BoxLine.TheVariants.{Inside, Outside, Virtual};
 
@@ -75,6 +75,7 @@ impl KindWord {
                 BoxLine::Outside,
                 BoxLine::Ports,
                 BoxLine::Closing,
+                BoxLine::Limit,
                 BoxLine::Icmp,
                 BoxLine::Static,
             ],
@@ -127,10 +128,10 @@ impl KindWord {
     }
 }
 
-/// The seconds of the line `closing`; none where it is not there.
-fn seconds_of(number: u64) -> Option<u32>
+/// The number of a line such as `closing`; none where it is not there.
+fn number_of(number: u64) -> Option<u32>
     requires { number < 2 ^ 32 }
-    ensures { result ≡ seconds_of number }
+    ensures { result ≡ number_of number }
 {
     if number == 0 {
         None
@@ -159,9 +160,10 @@ fn make_nat(settings: Settings, statics: ShortList<StaticPort>) -> NatBox
         ports.first as u16,
         ports.second as u16,
     )
-    .with_closing(seconds_of(closing))
+    .with_closing(number_of(closing))
     .with_statics(statics)
     .with_errors(settings.values(BoxLine::Icmp).first == 0)
+    .with_limit(number_of(settings.values(BoxLine::Limit).first))
 }
 
 /// The balancer of these settings and backends.
@@ -176,6 +178,6 @@ fn make_balancer(settings: Settings, backends: Backends) -> BalancerBox
     let end = settings.values(BoxLine::Virtual);
     let closing = settings.values(BoxLine::Closing).first;
     BalancerBox::new(shards as u32, end.first as u32, end.second as u16, backends).with_closing(
-        seconds_of(closing),
+        number_of(closing),
     )
 }

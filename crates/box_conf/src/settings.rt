@@ -18,6 +18,7 @@ pub struct Settings {
     pub outside: Option<Values>,
     pub ports: Option<Values>,
     pub closing: Option<Values>,
+    pub limit: Option<Values>,
     pub icmp: Option<Values>,
     /// The newest of the static ports.
     pub static_port: Option<Values>,
@@ -39,6 +40,7 @@ impl Settings {
             BoxLine::Outside => self.outside,
             BoxLine::Ports => self.ports,
             BoxLine::Closing => self.closing,
+            BoxLine::Limit => self.limit,
             BoxLine::Icmp => self.icmp,
             BoxLine::Static => self.static_port,
             BoxLine::Virtual => self.virtual_end,
@@ -74,6 +76,7 @@ impl Settings {
                 closing: set,
                 ..self
             },
+            BoxLine::Limit => Settings { limit: set, ..self },
             BoxLine::Icmp => Settings { icmp: set, ..self },
             BoxLine::Static => Settings {
                 static_port: set,

@@ -16,6 +16,7 @@ pub enum BoxLine {
     Outside,
     Ports,
     Closing,
+    Limit,
     Icmp,
     Static,
     Virtual,
@@ -138,6 +139,7 @@ impl BoxLine {
             BoxLine::Outside => b"outside",
             BoxLine::Ports => b"ports",
             BoxLine::Closing => b"closing",
+            BoxLine::Limit => b"limit",
             BoxLine::Icmp => b"icmp",
             BoxLine::Static => b"static",
             BoxLine::Virtual => b"virtual",
@@ -163,6 +165,7 @@ impl BoxLine {
                 low: 1,
                 high: 4_294_967_295,
             }],
+            BoxLine::Limit => &[PORT],
             BoxLine::Icmp => &[LinePlace::Errors],
             BoxLine::Static => &[LinePlace::Protocol, LinePlace::Address, PORT, PORT],
             BoxLine::Virtual | BoxLine::Backend => &[
@@ -194,6 +197,7 @@ impl BoxLine {
             | BoxLine::Inside
             | BoxLine::Outside
             | BoxLine::Closing
+            | BoxLine::Limit
             | BoxLine::Icmp
             | BoxLine::Static
             | BoxLine::Virtual
@@ -202,13 +206,13 @@ impl BoxLine {
     }
 
     /// The values that hold where the line is not there. A line that has none has to stand. `closing` is 0 then: no
-    /// connection is followed; and `icmp` is 1: no word stands there.
+    /// connection is followed; `limit` is 0: there is none; and `icmp` is 1: no word stands there.
     pub fn usual(self) -> Option<Values>
         ensures { result ≡ option_map values_from (usual_of self) }
     {
         let (first, second) = match self {
             BoxLine::Threads | BoxLine::Icmp => (1, 0),
-            BoxLine::Seed | BoxLine::Closing | BoxLine::Static => (0, 0),
+            BoxLine::Seed | BoxLine::Closing | BoxLine::Limit | BoxLine::Static => (0, 0),
             BoxLine::Shards => (16, 0),
             BoxLine::Inside | BoxLine::Outside | BoxLine::Virtual | BoxLine::Backend => return None,
             BoxLine::Ports => (1024, 65_535),

@@ -41,7 +41,7 @@ count_waiting (o ∷ sent) released =
 
 -- Packets that were dropped
 
--- why a packet was dropped, by the digit of the reason
+-- why a packet was dropped, by the digit of the reason: the colon stands for reason 10, behind the nine
 abbrev pub reason_word : ℕ → List ℕ
 reason_word digit =
     if digit == 49 then codes "short"
@@ -53,23 +53,27 @@ reason_word digit =
     else if digit == 55 then codes "no mapping"
     else if digit == 56 then codes "no free port"
     else if digit == 57 then codes "stray"
+    else if digit == 58 then codes "over limit"
     else digit ∷ []
 
--- The lines of a table of drops, from its text, such as `7:1 8:2`: before a reason, or behind its digit. A colon stands
--- behind each digit, and a space between two reasons.
-abbrev pub drop_words : Bool → List ℕ → List ℕ
-drop_words true [] = []
-drop_words true (digit ∷ text) = codes "dropped " ++ (reason_word digit ++ drop_words false text)
-drop_words false [] = codes "\n"
-drop_words false (c ∷ text) =
-    if c == 58 then 32 ∷ drop_words false text
-    else if c == 32 then 10 ∷ drop_words true text
-    else c ∷ drop_words false text
+-- the digit of a reason with one more byte, by that of the bytes before it
+abbrev pub digit_with : ℕ → ℕ → ℕ
+digit_with digit c = if digit == 49 && c == 48 then 58 else c
+
+-- The lines of a table of drops, from its text, such as `7:1 10:2`: before the colon of a reason, which has this digit
+-- so far, or behind it. A space stands between two reasons.
+abbrev pub drop_words : Option ℕ → List ℕ → List ℕ
+drop_words (Some digit) [] = []
+drop_words (Some digit) (c ∷ text) =
+    if c == 58 then codes "dropped " ++ (reason_word digit ++ 32 ∷ drop_words None text)
+    else drop_words (Some (digit_with digit c)) text
+drop_words None [] = codes "\n"
+drop_words None (c ∷ text) = if c == 32 then 10 ∷ drop_words (Some 48) text else c ∷ drop_words None text
 
 -- no line where the text is a dash: nothing was dropped
 abbrev pub drop_lines : List ℕ → List ℕ
 drop_lines [] = []
-drop_lines (c ∷ text) = if c == 45 then [] else drop_words true (c ∷ text)
+drop_lines (c ∷ text) = if c == 45 then [] else drop_words (Some 48) (c ∷ text)
 
 -- of what `show` of the table comes to
 abbrev pub shown_drops : Outcome → List ℕ

@@ -40,9 +40,9 @@ by_place w t j (suc n) x = x ≡ fate.Released (suc n)
 
 -- Of a packet of thread t
 
--- the fate of a packet that was ended, by the number in the register of reasons: reasons have the numbers 1 to 9
+-- the fate of a packet that was ended, by the number in the register of reasons: reasons have the numbers 1 to 10
 abbrev pub dropped_for : ℕ → Fate
-dropped_for reason = if nat_le 1 reason && nat_le reason 9 then fate.Dropped (48 + reason) else fate.NoOutput
+dropped_for reason = if nat_le 1 reason && nat_le reason 10 then fate.Dropped (48 + reason) else fate.NoOutput
 
 abbrev pub IsFate : {V : Type 0} → World V → ℕ → Became → Fate → Type 0
 IsFate w t Untaken x = x ≡ fate.NotTaken

@@ -47,7 +47,7 @@ fn fate_at(place: u64, lacks: Lacks) -> Fate
 fn dropped_for(reason: u64) -> Fate
     ensures { result ≡ dropped_for_of reason }
 {
-    if 1 <= reason && reason <= 9 {
+    if 1 <= reason && reason <= 10 {
         Fate::Dropped(b'0' + reason as u8)
     } else {
         Fate::NoOutput

@@ -187,6 +187,30 @@ fn reads_the_line_closing(rt: HostRuntime) {
     assert!(rt; has_closing(following, Some(1)));
 }
 
+/// Whether the box file is one of a NAT with this limit on the mappings of a host.
+fn has_limit(text: &str, wanted: Option<u32>) -> bool {
+    match read_box(text.as_bytes()) {
+        Ok(conf) => match &conf.kind {
+            BoxKind::Nat(nat) => nat.limit == wanted,
+            BoxKind::Count(_) | BoxKind::Monitor(_) | BoxKind::Balancer(_) => false,
+        },
+        Err(_) => false,
+    }
+}
+
+#[test]
+fn reads_the_line_limit(rt: HostRuntime) {
+    let without = "box nat\ninside 10.0.0.0 8\noutside 203.0.113.1";
+    let least = "box nat\nlimit 01\ninside 10.0.0.0 8\noutside 203.0.113.1";
+    let most = "box nat\ninside 10.0.0.0 8\noutside 203.0.113.1\nlimit 65535";
+    let both = "box nat\nclosing 240\nlimit 7\ninside 10.0.0.0 8\noutside 203.0.113.1";
+    assert!(rt; has_limit(without, None));
+    assert!(rt; has_limit(least, Some(1)));
+    assert!(rt; has_limit(most, Some(65_535)));
+    assert!(rt; has_limit(both, Some(7)));
+    assert!(rt; has_closing(both, Some(240)));
+}
+
 /// Whether the box file is one of a NAT that lets errors of ICMP through or not, and has these static ports: of each
 /// the number of its protocol, its address, its port and its outside port.
 fn has_statics(text: &str, errors: bool, wanted: &[(u8, u32, u16, u16)]) -> bool {
@@ -310,6 +334,22 @@ const NAT_FAULTS: [Row; 30] = [
     ("box nat\nports 1 2\nseed 1\nseed 1", "line 4: twice"),
 ];
 
+/// The same for its line `limit`.
+const LIMIT_FAULTS: [Row; 12] = [
+    ("box nat\nlimit", "line 2: missing word"),
+    ("box nat\nlimit 1 2", "line 2: extra word"),
+    ("box nat\nlimit x", "line 2: bad number"),
+    ("box nat\nlimit -1", "line 2: bad number"),
+    ("box nat\nlimit 0", "line 2: out of range"),
+    ("box nat\nlimit 65536", "line 2: out of range"),
+    ("box nat\nlimit 8\nlimit 8", "line 3: twice"),
+    ("box nat\nlimit 8\nlimit 0", "line 3: out of range"),
+    ("box nat\nlimit 8\n", "line 3: missing line"),
+    ("box balancer\nlimit 8", "line 2: unknown word"),
+    ("box monitor\nlimit 8", "line 2: unknown word"),
+    ("box count\nlimit 8", "line 2: unknown word"),
+];
+
 /// The same for its lines `icmp` and `static`.
 const STATIC_FAULTS: [Row; 32] = [
     ("box nat\nicmp", "line 2: missing word"),
@@ -425,7 +465,13 @@ const BALANCER_FAULTS: [Row; 20] = [
 ];
 
 /// All of them.
-const ALL_FAULTS: [&[Row]; 4] = [&FAULTS, &NAT_FAULTS, &STATIC_FAULTS, &BALANCER_FAULTS];
+const ALL_FAULTS: [&[Row]; 5] = [
+    &FAULTS,
+    &NAT_FAULTS,
+    &LIMIT_FAULTS,
+    &STATIC_FAULTS,
+    &BALANCER_FAULTS,
+];
 
 #[test]
 fn names_the_first_fault(rt: HostRuntime) -> Result<(), Fail> {
