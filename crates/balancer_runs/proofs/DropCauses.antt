@@ -23,18 +23,18 @@ use Rattle.balancer_runs.specs.Packets.{drop_counts, outcomes}
 use Rattle.balancer_runs.specs.Causes.{HasCause, DropsHaveCauses}
 use Rattle.balancer_runs.specs.Choosing.{loads_met}
 use Rattle.balancer_runs.proofs.Settling.{IsReason, IsPlaced, Placed, IsCounted, touch_of, run_placed}
-use Rattle.balancer_runs.proofs.Vanishing.{HasNine, counted_once, run_kept}
+use Rattle.balancer_runs.proofs.Vanishing.{HasTen, counted_once, run_kept}
 use Rattle.balancer_runs.proofs.Knowing.{KnownAt, Known, run_known}
 
 -- one count more, of this reason
 abbrev IsOneMore : ℕ → List ℕ → List ℕ → Type 0
 IsOneMore reason old new = new ≡ slice_set old (reason - 1) ((slice_index old (reason - 1) + 1) % 2 ^ 64)
 
-counts_more : (c : Option ℕ) (x : BalancerValue) (n : Noted) → HasNine x → IsReason n.reason
+counts_more : (c : Option ℕ) (x : BalancerValue) (n : Noted) → HasTen x → IsReason n.reason
     → IsOneMore n.reason (drop_counts x) (drop_counts (touched c CountsDrop x n).0)
-counts_more c (Dropped d) n nine is = counted_once n.reason d is
-counts_more c (Loaded loads) n nine is = absurd nine
-counts_more c (Connected es) n nine is = absurd nine
+counts_more c (Dropped d) n ten is = counted_once n.reason d is
+counts_more c (Loaded loads) n ten is = absurd ten
+counts_more c (Connected es) n ten is = absurd ten
 
 -- a touch of a variable is the effect of its step
 pub touches_it : {V : Type 0} (t taken v : ℕ) (earlier : List (Step V)) (d : Effect V) (entry : Entry) (place : ℕ)
@@ -55,7 +55,7 @@ touches_it t taken v earlier EndsIt entry place left e w = absurd (cc)
 module _ (s : Settings) (is : AreSettings s) (packets : List Packet) (t taken taken_then : ℕ)
     (earlier : List (Step BalancerValue)) (value : ℕ → BalancerValue)
     (fits : (v : ℕ) → v < 2 + s.shards → Fits s v (value v)) (before after : Option Hand) (had : ℕ) (r : Trail)
-    (met : Option (List ℕ × List ℕ)) (nine : HasNine (value 0)) (placed : Placed s had before)
+    (met : Option (List ℕ × List ℕ)) (ten : HasTen (value 0)) (placed : Placed s had before)
     (known : Known s r met before) where
   deed_causes : (left : BalancerValue) → Made s packets taken value before after (Touches 0 left)
       → (h : Hand) × (reason : ℕ) × (before ≡ Some h) × HasCause s r h.packet reason
@@ -84,7 +84,7 @@ module _ (s : Settings) (is : AreSettings s) (packets : List Packet) (t taken ta
           m.3 ∙ ap (λ (p : Place). (touched s.closing p (value 0) n).0) at in
           let more : IsOneMore n.reason (drop_counts (value 0))
           (drop_counts (touched s.closing CountsDrop (value 0) n).0) =
-          counts_more s.closing (value 0) n nine reason in
+          counts_more s.closing (value 0) n ten reason in
           (h, n.reason, m.1, cause, ap drop_counts same ∙ more)
 
 pub drops_have : DropsHaveCauses

@@ -40,7 +40,7 @@ pub counted_once : (reason : ℕ) (d : Drops) → IsReason reason
     ≡ slice_set d.counts (reason - 1) ((slice_index d.counts (reason - 1) + 1) % 2 ^ 64)
 counted_once reason d is =
     let some : nat_lt 0 reason ≡ true = grind (arith, nat_tests) in
-    let few : nat_lt reason 10 ≡ true = grind (arith, nat_tests) in
+    let few : nat_lt reason 11 ≡ true = grind (arith, nat_tests) in
     rw (some, few) refl
 
 one_more : (counts : List ℕ) (at : ℕ) → at < length counts
@@ -51,27 +51,27 @@ one_more counts at low =
     sum_by-set (λ x. x) counts at ((slice_index counts at + 1) % 2 ^ 64) 0 low in
     omega arith
 
--- variable 0 has a count for each of nine reasons
-abbrev pub HasNine : BalancerValue → Type 0
-HasNine (Dropped d) = length d.counts ≡ 9
-HasNine (Loaded loads) = ⊥
-HasNine (Connected es) = ⊥
+-- variable 0 has a count for each of ten reasons
+abbrev pub HasTen : BalancerValue → Type 0
+HasTen (Dropped d) = length d.counts ≡ 10
+HasTen (Loaded loads) = ⊥
+HasTen (Connected es) = ⊥
 
-drop_more : (c : Option ℕ) (x : BalancerValue) (n : Noted) → HasNine x → IsReason n.reason
-    → HasNine (touched c CountsDrop x n).0
+drop_more : (c : Option ℕ) (x : BalancerValue) (n : Noted) → HasTen x → IsReason n.reason
+    → HasTen (touched c CountsDrop x n).0
     × (sum (drop_counts (touched c CountsDrop x n).0) % 2 ^ 64 ≡ (sum (drop_counts x) + 1) % 2 ^ 64)
-drop_more c (Dropped d) n nine is =
+drop_more c (Dropped d) n ten is =
     let same = counted_once n.reason d is in
     let at : n.reason - 1 < length d.counts = omega (arith, is.0, is.1) in (
-      ap length same ∙ length-set d.counts (n.reason - 1) ((slice_index d.counts (n.reason - 1) + 1) % 2 ^ 64) ∙ nine,
+      ap length same ∙ length-set d.counts (n.reason - 1) ((slice_index d.counts (n.reason - 1) + 1) % 2 ^ 64) ∙ ten,
       ap (λ (c : List ℕ). sum c % 2 ^ 64) same ∙ one_more d.counts (n.reason - 1) at,
     )
-drop_more c (Loaded loads) n nine is = absurd nine
-drop_more c (Connected es) n nine is = absurd nine
+drop_more c (Loaded loads) n ten is = absurd ten
+drop_more c (Connected es) n ten is = absurd ten
 
 -- what a step changes: packets taken, sent and dropped, and those that wait
 module _ (s : Settings) (is : AreSettings s) (threads t : ℕ) (low : t < threads) (packets : List Packet) (taken : ℕ)
-    (after : Thread) (earlier : List (Step BalancerValue)) (nine : HasNine (value_after (balancer_meaning s) earlier 0))
+    (after : Thread) (earlier : List (Step BalancerValue)) (ten : HasTen (value_after (balancer_meaning s) earlier 0))
     (fits : (v : ℕ) → v < 2 + s.shards → Fits s v (value_after (balancer_meaning s) earlier v)) where
   abbrev value : ℕ → BalancerValue
   value = value_after (balancer_meaning s) earlier
@@ -101,7 +101,7 @@ module _ (s : Settings) (is : AreSettings s) (threads t : ℕ) (low : t < thread
   -- taken, sent and dropped packets after an effect
   abbrev Kept : Effect BalancerValue → Type 0
   Kept d =
-      HasNine (left_by 0 (act_of t earlier after.taken d) (value 0))
+      HasTen (left_by 0 (act_of t earlier after.taken d) (value 0))
       × ((taken_by (act_of t earlier after.taken d) + packets_taken earlier) % 2 ^ 64
       ≡ (sent_by (act_of t earlier after.taken d) + packets_sent earlier
       + sum (drop_counts (left_by 0 (act_of t earlier after.taken d) (value 0)))
@@ -112,7 +112,7 @@ module _ (s : Settings) (is : AreSettings s) (threads t : ℕ) (low : t < thread
       ≡ (packets_sent earlier + packets_dropped s earlier + packets_waiting threads earlier) % 2 ^ 64
 
   taken_kept : Balanced → waits before.hand had ≡ 0 → waits after.hand 0 ≡ 1 → Kept Takes
-  taken_kept old was now = let a = waiting_step (λ n. 0) in (nine, omega arith)
+  taken_kept old was now = let a = waiting_step (λ n. 0) in (ten, omega arith)
 
   still_kept : (now : ℕ → ℕ) → Balanced → waits before.hand had ≡ waits after.hand (now had)
       → (0 + packets_taken earlier) % 2 ^ 64
@@ -120,7 +120,7 @@ module _ (s : Settings) (is : AreSettings s) (threads t : ℕ) (low : t < thread
   still_kept now old same = let a = waiting_step now in omega arith
 
   sent_kept : (q : Packet) → Balanced → waits before.hand had ≡ 1 → waits after.hand (had + 1) ≡ 0 → Kept (Sends q)
-  sent_kept q old was now = let a = waiting_step (λ n. n + 1) in (nine, omega arith)
+  sent_kept q old was now = let a = waiting_step (λ n. n + 1) in (ten, omega arith)
 
   dropped_kept : (left : BalancerValue) → Balanced → waits before.hand had ≡ 1 → waits after.hand (had + 1) ≡ 0
       → sum (drop_counts left) % 2 ^ 64 ≡ (sum (drop_counts (value 0)) + 1) % 2 ^ 64
@@ -152,7 +152,7 @@ module _ (s : Settings) (is : AreSettings s) (threads t : ℕ) (low : t < thread
         let c = clock_on s (place_numbered h.place.at) a (noted_by s h.place) m.2 in
         let was : waits before.hand had ≡ 1 = waits_at s had before.hand h false placed m.1 c.0 in
         let now : waits after.hand had ≡ 1 = waits_then had h g false new m.3 c.1.0 in
-        (nine, still_kept (λ n. n) old (was ∙ sym now))
+        (ten, still_kept (λ n. n) old (was ∙ sym now))
     step_kept (Sends q) old new m =
         let h : Hand = m.0 in
         let at = at_send s (place_numbered h.place.at) (noted_by s h.place) m.2 in
@@ -165,7 +165,7 @@ module _ (s : Settings) (is : AreSettings s) (threads t : ℕ) (low : t < thread
         let at = at_end s (place_numbered h.place.at) (noted_by s h.place) m.2 in
         let was : waits before.hand had ≡ 0 = waits_at s had before.hand h true placed m.1 (ap is_over at) in
         let now : waits after.hand had ≡ 0 = ap (λ (y : Option Hand). waits y had) m.3 in
-        (nine, still_kept (λ n. n) old (was ∙ sym now))
+        (ten, still_kept (λ n. n) old (was ∙ sym now))
     step_kept (Touches v left) old new m =
         by (touch_of s is packets t taken after.taken earlier value fits before.hand after.hand had m.0 v m.2)
       where
@@ -182,7 +182,7 @@ module _ (s : Settings) (is : AreSettings s) (threads t : ℕ) (low : t < thread
             subst (λ b. Placed s (cond b (had + 1) had) after.hand) off new in
             let was : waits before.hand had ≡ 1 = waits_at s had before.hand h false placed m.1 k.1 in
             let now : waits after.hand had ≡ 1 = waits_then had h r.1 false new' m.4 k.2.0 in
-            rw off (nine, still_kept (λ n. n) old (was ∙ sym now))
+            rw off (ten, still_kept (λ n. n) old (was ∙ sym now))
         by (inr k) =
             let on : nat_eq v 0 ≡ true = is_eq v 0 k.0 in
             let at : place_numbered h.place.at ≡ CountsDrop = k.1 in
@@ -195,17 +195,17 @@ module _ (s : Settings) (is : AreSettings s) (threads t : ℕ) (low : t < thread
             subst (Placed s had) m.1 placed in
             let reason : IsReason (noted_by s h.place).reason =
             (subst (λ (p : Place). IsPlaced had p (noted_by s h.place).reason) at known).1 in
-            let more = drop_more s.closing (value 0) (noted_by s h.place) nine reason in
+            let more = drop_more s.closing (value 0) (noted_by s h.place) ten reason in
             let same : (touched s.closing CountsDrop (value 0) (noted_by s h.place)).0 ≡ left =
             sym (ap (λ (u : ℕ). (touched s.closing CountsDrop (value u) (noted_by s h.place)).0) k.0)
             ∙ sym (ap (λ (p : Place). (touched s.closing p (value v) (noted_by s h.place)).0) at) ∙ sym m.3 in
             let last = subst (λ (y : BalancerValue).
-            HasNine y × (sum (drop_counts y) % 2 ^ 64 ≡ (sum (drop_counts (value 0)) + 1) % 2 ^ 64)) same more in
+            HasTen y × (sum (drop_counts y) % 2 ^ 64 ≡ (sum (drop_counts (value 0)) + 1) % 2 ^ 64)) same more in
             rw on (last.0, dropped_kept left old was now last.1)
 
 pub run_kept : (s : Settings) (threads : ℕ) (inputs : ℕ → List Packet) (steps : List (Step BalancerValue))
     → AreSettings s → IsHistory (balancer_meaning s) inputs threads steps
-    → HasNine (value_after (balancer_meaning s) steps 0)
+    → HasTen (value_after (balancer_meaning s) steps 0)
     × (packets_taken steps % 2 ^ 64
     ≡ (packets_sent steps + packets_dropped s steps + packets_waiting threads steps) % 2 ^ 64)
 run_kept s threads inputs [] is h =

@@ -33,6 +33,7 @@ HasOneMore key few many =
     (protocol address : ℕ)
     → count_of protocol address many ≡ one_if (is_of_host protocol address key) + count_of protocol address few
 
+-- the mapping of a row is of the endpoint's host; an empty row has none
 abbrev pub row_is_of_host : Endpoint → Option (Endpoint × Slot) → Bool
 row_is_of_host key None = false
 row_is_of_host key (Some e) = is_of_host key.protocol key.address e.0

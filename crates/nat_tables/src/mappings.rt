@@ -1,4 +1,4 @@
-ghost use Rattle.std.specs.Prelude.{◌≡◌, [], IfOk, OnOk, OnErr, length};
+ghost use Rattle.std.specs.Prelude.{◌≡◌, [], IfOk, OnOk, OnErr};
 ghost use Rattle.nat_tables.specs.Forwards.{Forwards, slot_of, lives, find, find_or_bind};
 ghost use Rattle.nat_tables.specs.Forwards.{first_idle, idle_removed, without, mark, keep};
 ghost use Rattle.nat_tables.specs.Hosts.{count_of, is_full, first_idle_of, given_up};
@@ -96,13 +96,6 @@ impl Mappings {
         self.table.lives(key, port, now)
     }
 
-    /// How many mappings there are, idle ones included.
-    pub fn len(&self) -> usize
-        ensures { result ≡ length self.now }
-    {
-        self.table.len()
-    }
-
     /// How many mappings the endpoint's host has, idle ones included.
     fn count_of(&self, key: &Endpoint) -> usize
         ensures { result ≡ count_of key.now.protocol key.now.address self.now }
@@ -181,10 +174,7 @@ impl Mappings {
     pub fn find_within(&mut self, most: u32, key: &Endpoint, now: u64) -> Find
         ensures { (result, self.new) ≡ find_within most key.now now self.old }
     {
-        if let Some(_known) = self.table.slot_of(key) {
-            return self.find(key, now);
-        }
-        if self.is_full(most, key) {
+        if self.slot_of(key).is_none() && self.is_full(most, key) {
             return self.find_of_full(key, now);
         }
         self.find(key, now)
@@ -224,10 +214,8 @@ impl Mappings {
             ≡ bind_within most key.now port now self.old) }
         ensures err { OnErr result (self.new ≡ self.old) }
     {
-        if let None = self.table.slot_of(key) {
-            if self.is_full(most, key) {
-                return Ok(None);
-            }
+        if self.slot_of(key).is_none() && self.is_full(most, key) {
+            return Ok(None);
         }
         Ok(Some(self.find_or_bind(key, port, now)?))
     }
