@@ -57,7 +57,7 @@ use Rattle.nat_box.specs.Noting.{place_again, IsNoted, is_noted, noted_again}
 use Rattle.nat_box.specs.Lawful.{AreSettings, var_of, touches_it, reads_it, below_all, nat_lawful}
 use Rattle.nat_box.specs.Emissions.{Trail, no_trail, left_forward, trail_by, trail_of, WasMapped, Lived}
 use Rattle.nat_box.specs.Emissions.{IsTranslated, IsTranslationOf, EmissionsTranslate}
-use Rattle.nat_box.proofs.Noting.{touch_noted}
+use Rattle.nat_box.proofs.Noting.{touched_noted}
 use Rattle.flow_boxes.proofs.Fitting.{IsWhole, slot_refreshed, slot_bound}
 use Rattle.flow_boxes.proofs.HeldInputs.{IsHeld, move_holds, run_holds}
 use Rattle.nat_box.proofs.Making.{goes_on, comes_to, Made, made}
@@ -705,7 +705,7 @@ made_known s is packets t earlier taken tn before after (Touches v left) bytes f
     let next = followed_known s h.packet r n u.0 u.1.place u.1.noted
     (limited_known s h.packet r place x n v u m.2 known (touch_comes s v s.limit place x n (fits v below))) in
     let on : Known s (after_touch left r) (goes_on h u.1) =
-    known_on s (after_touch left r) h u.1 (touch_noted s place x n v (is_noted h.place) (fits v below)) next in
+    known_on s (after_touch left r) h u.1 (touched_noted s place x n v (is_noted h.place) (fits v below)) next in
     subst (λ (y : NatValue). Known s (after_touch y r) after) (sym m.3)
     (subst (Known s (after_touch left r)) (sym m.4) on)
 made_known s is packets t earlier taken tn before after (Looks v) bytes fits r k m =

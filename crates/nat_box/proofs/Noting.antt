@@ -156,58 +156,58 @@ reserved_noted : (n : Noted) (o : Option ℕ) → IsNoted n → ((p : ℕ) → o
 reserved_noted n (Some p) is small = with_port n p (small p refl) is
 reserved_noted n None is small = with_word n 8 is
 
-touched_noted : (s : Settings) (p : Place) (x : NatValue) (n : Noted) (v : ℕ) → IsNoted n → Fits s v x
+plain_noted : (s : Settings) (p : Place) (x : NatValue) (n : Noted) (v : ℕ) → IsNoted n → Fits s v x
     → IsNoted (touched p x n).1.noted
-touched_noted s HearsTime x n v is fits = is
-touched_noted s FindsMapping (Dropped d) n v is fits = is
-touched_noted s FindsMapping (Free pool) n v is fits = is
-touched_noted s FindsMapping (Mapped es) n v is fits =
+plain_noted s HearsTime x n v is fits = is
+plain_noted s FindsMapping (Dropped d) n v is fits = is
+plain_noted s FindsMapping (Free pool) n v is fits = is
+plain_noted s FindsMapping (Mapped es) n v is fits =
     found_noted s v n is es fits.2 (slot_of n.source es) (first_idle n.time es) refl refl
-touched_noted s FindsMapping (Taken bs) n v is fits = is
-touched_noted s UnbindsFreed (Dropped d) n v is fits = is
-touched_noted s UnbindsFreed (Free pool) n v is fits = is
-touched_noted s UnbindsFreed (Mapped es) n v is fits = is
-touched_noted s UnbindsFreed (Taken bs) n v is fits = is
-touched_noted s GivesBackFreed (Dropped d) n v is fits = is
-touched_noted s GivesBackFreed (Free pool) n v is fits = is
-touched_noted s GivesBackFreed (Mapped es) n v is fits = is
-touched_noted s GivesBackFreed (Taken bs) n v is fits = is
-touched_noted s DrawsWord x n v is fits = is
-touched_noted s ReservesPort (Dropped d) n v is fits = is
-touched_noted s ReservesPort (Free pool) n v is fits =
+plain_noted s FindsMapping (Taken bs) n v is fits = is
+plain_noted s UnbindsFreed (Dropped d) n v is fits = is
+plain_noted s UnbindsFreed (Free pool) n v is fits = is
+plain_noted s UnbindsFreed (Mapped es) n v is fits = is
+plain_noted s UnbindsFreed (Taken bs) n v is fits = is
+plain_noted s GivesBackFreed (Dropped d) n v is fits = is
+plain_noted s GivesBackFreed (Free pool) n v is fits = is
+plain_noted s GivesBackFreed (Mapped es) n v is fits = is
+plain_noted s GivesBackFreed (Taken bs) n v is fits = is
+plain_noted s DrawsWord x n v is fits = is
+plain_noted s ReservesPort (Dropped d) n v is fits = is
+plain_noted s ReservesPort (Free pool) n v is fits =
     reserved_noted n (reserve n.source.protocol n.source.port n.word pool).0 is
     (small_reserve n.source.protocol n.source.port n.word pool fits.3)
-touched_noted s ReservesPort (Mapped es) n v is fits = is
-touched_noted s ReservesPort (Taken bs) n v is fits = is
-touched_noted s BindsPort (Dropped d) n v is fits = is
-touched_noted s BindsPort (Free pool) n v is fits = is
-touched_noted s BindsPort (Mapped es) n v is fits = is
-touched_noted s BindsPort (Taken bs) n v is fits = is
-touched_noted s FindsOrBinds (Dropped d) n v is fits = is
-touched_noted s FindsOrBinds (Free pool) n v is fits = is
-touched_noted s FindsOrBinds (Mapped es) n v is fits = bound_noted s v n is es fits.2 (slot_of n.source es) refl
-touched_noted s FindsOrBinds (Taken bs) n v is fits = is
-touched_noted s UnbindsLost (Dropped d) n v is fits = is
-touched_noted s UnbindsLost (Free pool) n v is fits = is
-touched_noted s UnbindsLost (Mapped es) n v is fits = is
-touched_noted s UnbindsLost (Taken bs) n v is fits = is
-touched_noted s GivesBackLost (Dropped d) n v is fits = is
-touched_noted s GivesBackLost (Free pool) n v is fits = mapped_noted n n.class is
-touched_noted s GivesBackLost (Mapped es) n v is fits = is
-touched_noted s GivesBackLost (Taken bs) n v is fits = is
-touched_noted s FindsEndpoint x n v is fits = is
-touched_noted s AsksIfLives x n v is fits = is
-touched_noted s CountsDrop (Dropped d) n v is fits = is
-touched_noted s CountsDrop (Free pool) n v is fits = is
-touched_noted s CountsDrop (Mapped es) n v is fits = is
-touched_noted s CountsDrop (Taken bs) n v is fits = is
-touched_noted s SendsOut x n v is fits = is
-touched_noted s Ends x n v is fits = is
-touched_noted s FindsPort x n v is fits = is
+plain_noted s ReservesPort (Mapped es) n v is fits = is
+plain_noted s ReservesPort (Taken bs) n v is fits = is
+plain_noted s BindsPort (Dropped d) n v is fits = is
+plain_noted s BindsPort (Free pool) n v is fits = is
+plain_noted s BindsPort (Mapped es) n v is fits = is
+plain_noted s BindsPort (Taken bs) n v is fits = is
+plain_noted s FindsOrBinds (Dropped d) n v is fits = is
+plain_noted s FindsOrBinds (Free pool) n v is fits = is
+plain_noted s FindsOrBinds (Mapped es) n v is fits = bound_noted s v n is es fits.2 (slot_of n.source es) refl
+plain_noted s FindsOrBinds (Taken bs) n v is fits = is
+plain_noted s UnbindsLost (Dropped d) n v is fits = is
+plain_noted s UnbindsLost (Free pool) n v is fits = is
+plain_noted s UnbindsLost (Mapped es) n v is fits = is
+plain_noted s UnbindsLost (Taken bs) n v is fits = is
+plain_noted s GivesBackLost (Dropped d) n v is fits = is
+plain_noted s GivesBackLost (Free pool) n v is fits = mapped_noted n n.class is
+plain_noted s GivesBackLost (Mapped es) n v is fits = is
+plain_noted s GivesBackLost (Taken bs) n v is fits = is
+plain_noted s FindsEndpoint x n v is fits = is
+plain_noted s AsksIfLives x n v is fits = is
+plain_noted s CountsDrop (Dropped d) n v is fits = is
+plain_noted s CountsDrop (Free pool) n v is fits = is
+plain_noted s CountsDrop (Mapped es) n v is fits = is
+plain_noted s CountsDrop (Taken bs) n v is fits = is
+plain_noted s SendsOut x n v is fits = is
+plain_noted s Ends x n v is fits = is
+plain_noted s FindsPort x n v is fits = is
 
 limited_noted : (s : Settings) (p : Place) (x : NatValue) (n : Noted) (v : ℕ) (r : NatValue × Goes) → IsNoted n
     → Fits s v x → Comes s.limit p x n r → IsNoted r.1.noted
-limited_noted s p x n v r is fits (inl agrees) = rw agrees.same (touched_noted s p x n v is fits)
+limited_noted s p x n v r is fits (inl agrees) = rw agrees.same (plain_noted s p x n v is fits)
 limited_noted s p x n v r is fits (inr (inl (inl up))) =
     let f : Fits s v (Mapped up.es) = subst (Fits s v) up.value fits in
     let m = may_slot (MayMap s v) up.gone.0 up.gone.1 up.es up.there f.2 in
@@ -218,7 +218,7 @@ limited_noted s p x n v r is fits (inr (inr (inl refused))) =
     (with_freed (record n { port = 0 }) (source_key n) is.protocol is.port (with_port n 0 (omega arith) is))
 limited_noted s p x n v r is fits (inr (inr (inr late))) = rw late.goes_on (with_word n 10 is)
 
-pub touch_noted : (s : Settings) (p : Place) (x : NatValue) (n : Noted) (v : ℕ) → IsNoted n → Fits s v x
+pub touched_noted : (s : Settings) (p : Place) (x : NatValue) (n : Noted) (v : ℕ) → IsNoted n → Fits s v x
     → IsNoted (touched_by s.limit p x n).1.noted
-touch_noted s p x n v is fits =
+touched_noted s p x n v is fits =
     limited_noted s p x n v (touched_by s.limit p x n) is fits (touch_comes s v s.limit p x n fits)

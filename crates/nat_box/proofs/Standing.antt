@@ -38,7 +38,7 @@ use Rattle.nat_box.proofs.StaticPlaces.{fresh_free}
 use Rattle.flow_boxes.proofs.Summing.{one_changes, sum_of_none, term_of_sum, sums_below}
 use Rattle.nat_box.proofs.Effects.{holds_none, seen, Shifts, IsPart, IsUnder, Own, limited_sound}
 use Rattle.nat_box.proofs.Following.{seen_followed}
-use Rattle.nat_box.proofs.Noting.{touch_noted}
+use Rattle.nat_box.proofs.Noting.{touched_noted}
 use Rattle.nat_box.specs.LimitLaws.{touch_comes}
 use Rattle.nat_box.proofs.Moving.{HandNone, touching, Outcome, outcome}
 
@@ -221,7 +221,7 @@ module _ (s : Settings) (is : AreSettings s) (threads : ℕ) (k : PortKey) (e : 
         let below : w < 2 + 2 * s.shards = subst (λ (u : ℕ). u < 2 + 2 * s.shards) at (below_all s p n is.some) in
         let was : (number : Place → Noted → ℕ) → in_hand number (thread t).hand ≡ number p n =
         λ number. ap (in_hand number) o.1 in
-        let fit : IsNoted r.1.noted = touch_noted s p (value w) n w (is_noted h.place) (fits w below) in
+        let fit : IsNoted r.1.noted = touched_noted s p (value w) n w (is_noted h.place) (fits w below) in
         let goes_on : (number : Place → Noted → ℕ) → in_hand number after.hand ≡ number r.1.place r.1.noted =
         λ number. ap (in_hand number) o.4 ∙ hand_number number h.packet r.1 fit in
         let own_is : Bool = w == reverse_table s k in

@@ -153,7 +153,7 @@ impl NatBox {
         }
     }
 
-    /// The same box, where an inside address may have so many mappings of each protocol.
+    /// The same box, where an inside address may have so many mappings of each protocol, or as many as there are ports.
     pub fn with_limit(self, limit: Option<u32>) -> Self
         ensures { result ≡ with_limit limit self }
     {

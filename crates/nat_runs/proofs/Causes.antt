@@ -20,7 +20,7 @@ use Rattle.flow_boxes.specs.declared.drops.Drops.{Drops}
 use Rattle.nat_box.specs.declared.value.NatValue.{NatValue}
 use Rattle.nat_box.specs.declared.value.NatValue.TheVariants.{Dropped}
 use Rattle.nat_box.specs.Places.{noted}
-use Rattle.nat_box.specs.Nat.{Settings, touched, followed, nat_meaning, Fits}
+use Rattle.nat_box.specs.Nat.{Settings, touched_by, followed, nat_meaning, Fits}
 use Rattle.nat_box.specs.Lawful.{AreSettings, var_of, touches_it, nat_lawful}
 use Rattle.flow_boxes.proofs.HeldInputs.{IsHeld, run_holds}
 use Rattle.nat_box.proofs.Making.{comes_to}
@@ -37,19 +37,21 @@ Counted s m p x left =
     (d : Drops) × (reason : ℕ) × (x ≡ Dropped d) × (left ≡ Dropped (one_more reason d))
     × (AreBytes p.bytes → Cause s p m reason)
 
-counted : (s : Settings) (m : Met) (p : Packet) (place : Place) (x : NatValue) (n : Noted) → TouchKind place x
-    → var_of s place n ≡ 0 → KnownAt s m p place n → Counted s m p x (followed s n (touched place x n).0)
-counted s m p _ _ n (finds es) e k = absurd (omega arith)
-counted s m p _ _ n (unbinds_freed bs) e k = absurd (omega arith)
-counted s m p _ _ n (gives_freed pool) e k = absurd (omega arith)
-counted s m p _ _ n (reserves pool) e k = absurd (omega arith)
-counted s m p _ _ n (binds bs) e k = absurd (omega arith)
-counted s m p _ _ n (finds_or_binds es) e k = absurd (omega arith)
-counted s m p _ _ n (unbinds_lost bs) e k = absurd (omega arith)
-counted s m p _ _ n (gives_lost pool) e k = absurd (omega arith)
-counted s m p _ _ n (counts d) e k = (d, n.word, refl, ap Dropped (drop_is n.word d k.0 k.1), k.2)
+counted : (s : Settings) (m : Met) (p : Packet) (place : Place) (x : NatValue) (n : Noted) (limit : Option ℕ)
+    → TouchKind place x → var_of s place n ≡ 0 → KnownAt s m p place n
+    → Counted s m p x (followed s n (touched_by limit place x n).0)
+counted s m p _ _ n limit (finds es) e k = absurd (omega arith)
+counted s m p _ _ n limit (unbinds_freed bs) e k = absurd (omega arith)
+counted s m p _ _ n limit (gives_freed pool) e k = absurd (omega arith)
+counted s m p _ _ n limit (reserves pool) e k = absurd (omega arith)
+counted s m p _ _ n limit (binds bs) e k = absurd (omega arith)
+counted s m p _ _ n limit (finds_or_binds es) e k = absurd (omega arith)
+counted s m p _ _ n limit (unbinds_lost bs) e k = absurd (omega arith)
+counted s m p _ _ n limit (gives_lost pool) e k = absurd (omega arith)
+counted s m p _ _ n None (counts d) e k = (d, n.word, refl, ap Dropped (drop_is n.word d k.0 k.1), k.2)
+counted s m p _ _ n (Some most) (counts d) e k = (d, n.word, refl, ap Dropped (drop_is n.word d k.0 k.1), k.2)
 
-entry_is : (a b : Entry) (left right : Option NatValue) → Did a left ≡ Did b right → a.what ≡ b.what
+pub entry_is : (a b : Entry) (left right : Option NatValue) → Did a left ≡ Did b right → a.what ≡ b.what
 entry_is a b left right e = let same : a ≡ b = cc in ap (λ (x : Entry). x.what) same
 
 module _ (s : Settings) (is : AreSettings s) (packets : List Packet) (value : ℕ → NatValue) (t : ℕ)
@@ -63,8 +65,8 @@ module _ (s : Settings) (is : AreSettings s) (packets : List Packet) (value : �
       × Counted s m h.packet (value 0) (left_by 0 (act_of t earlier taken_then d) (value 0))
 
   at_touch : (h : Hand) (w : ℕ) (after : NatValue)
-      → after ≡ followed s (noted h.place) (touched (at h) (value w) (noted h.place)).0 → comes_to s h (Access w)
-      → Known s m (Some h) → act_of t earlier taken_then (Touches w after) ≡ Did entry left
+      → after ≡ followed s (noted h.place) (touched_by s.limit (at h) (value w) (noted h.place)).0
+      → comes_to s h (Access w) → Known s m (Some h) → act_of t earlier taken_then (Touches w after) ≡ Did entry left
       → Counted s m h.packet (value 0) (cond (nat_eq w 0) after (value 0))
   at_touch h w after q move k e =
       let this : Entry = entry_of t (log_of earlier) (Accessed w (places w (log_of earlier) + 1)) in
@@ -76,7 +78,7 @@ module _ (s : Settings) (is : AreSettings s) (packets : List Packet) (value : �
       let it : var_of s (at h) (noted h.place) ≡ w = touches_it s (at h) (noted h.place) w move in
       let c : Counted s m h.packet (value w) after =
       subst (Counted s m h.packet (value w)) (sym q)
-      (counted s m h.packet (at h) (value w) (noted h.place) kind (it ∙ none) k) in
+      (counted s m h.packet (at h) (value w) (noted h.place) s.limit kind (it ∙ none) k) in
       subst (λ (b : Bool). Counted s m h.packet (value 0) (cond b after (value 0))) (sym (is_eq w 0 none))
       (subst (λ (u : ℕ). Counted s m h.packet (value u) after) none c)
 
@@ -94,11 +96,11 @@ module _ (s : Settings) (is : AreSettings s) (packets : List Packet) (value : �
 
   pub move_counts : (after : Thread) (d : Effect NatValue) (hand : Option Hand) (a : Option ℕ)
       → held_move (nat_meaning s) packets value taken a hand ≡ Moves after d → Counts hand after.hand d
-  move_counts after d hand a move =
-      by_move s packets value taken Counts (λ p input k e. absurd (cc))
-      (λ h w c k e.
-      (h, refl, at_touch h w (followed s (noted h.place) (touched (at h) (value w) (noted h.place)).0) refl c k e))
-      (λ h w c k e. absurd (not_read w (places w (log_of earlier)) (what_of (WasRead w (places w (log_of earlier))) e)))
+  move_counts after d hand a move = by_move s packets value taken Counts (λ p input k e. absurd (cc)) (λ h w c k e. (
+    h,
+    refl,
+    at_touch h w (followed s (noted h.place) (touched_by s.limit (at h) (value w) (noted h.place)).0) refl c k e,
+  )) (λ h w c k e. absurd (not_read w (places w (log_of earlier)) (what_of (WasRead w (places w (log_of earlier))) e)))
       (λ h x c k e. absurd (not_heard x (what_of (Heard x) e))) (λ h x c k e. absurd (not_drew x (what_of (Drew x) e)))
       (λ h c k e. absurd (cc)) (λ h c k e. absurd (cc)) after d hand a move
 

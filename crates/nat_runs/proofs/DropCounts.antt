@@ -10,11 +10,11 @@ use Rattle.flow_boxes.specs.declared.drops.Drops.{Drops}
 use Rattle.flow_boxes.specs.Drops.{with_drop}
 use Rattle.nat_runs.specs.Causes.{one_more}
 
-pub drop_is : (reason : ℕ) (d : Drops) → 1 ≤ reason → reason ≤ 9 → with_drop reason d ≡ one_more reason d
+pub drop_is : (reason : ℕ) (d : Drops) → 1 ≤ reason → reason ≤ 10 → with_drop reason d ≡ one_more reason d
 drop_is reason d low high =
     let a : nat_lt 0 reason ≡ true = grind (arith, nat_tests) in
-    let b : nat_lt reason 10 ≡ true = grind (arith, nat_tests) in
-    let both : (nat_lt 0 reason && nat_lt reason 10) ≡ true = rw (a, b) refl in
+    let b : nat_lt reason 11 ≡ true = grind (arith, nat_tests) in
+    let both : (nat_lt 0 reason && nat_lt reason 11) ≡ true = rw (a, b) refl in
     ap (λ (t : Bool). if t then one_more reason d else d) both
 
 pub one_more_long : (reason : ℕ) (d : Drops) → length (one_more reason d).counts ≡ length d.counts
@@ -38,6 +38,6 @@ sum_set (n ∷ ns) (suc i) low =
     ∙ sum_front n (sum left) (sum ns) (sum_set ns i (omega arith))
     ∙ ap (λ m. (m + 1) % 2 ^ 64) (sym (sum_by-cons (λ m. m) n ns))
 
-pub one_more_sum : (reason : ℕ) (d : Drops) → 1 ≤ reason → reason ≤ 9 → length d.counts ≡ 9
+pub one_more_sum : (reason : ℕ) (d : Drops) → 1 ≤ reason → reason ≤ 10 → length d.counts ≡ 10
     → sum (one_more reason d).counts % 2 ^ 64 ≡ (sum d.counts + 1) % 2 ^ 64
-one_more_sum reason d low high nine = sum_set d.counts (reason - 1) (omega arith)
+one_more_sum reason d low high ten = sum_set d.counts (reason - 1) (omega arith)

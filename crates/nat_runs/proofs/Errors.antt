@@ -1,5 +1,5 @@
 -- Without errors a packet is what its frame is as a flow.
-use Rattle.std.proofs.Common.{◌≡◌, ℕ, Bool, true, false, List, refl, sym, ap, ◌∙◌, subst, Option, Some, None}
+use Rattle.std.proofs.Common.{◌≡◌, Bool, true, false, refl, sym, ap, ◌∙◌, subst, Some, None}
 use Rattle.std.specs.Prelude.{if◌then◌else◌, Result, Ok, Err}
 use Rattle.plain_text.specs.declared.packet.Packet.{Packet}
 use Rattle.packet_headers.specs.declared.flow.Flow.{Flow}
@@ -14,7 +14,8 @@ use Rattle.nat_box.specs.Places.{noted}
 use Rattle.nat_box.specs.Nat.{Settings, error_or, seen_as, seen_by, begun, bytes_out, local_at}
 use Rattle.nat_box.proofs.SeenAs.{lets_errors}
 use Rattle.nat_runs.specs.Met.{met_of}
-use Rattle.nat_runs.specs.Errors.{flow_alone, BeginsByFlow, SendsByFlow, NoneFindsPort}
+use Rattle.nat_runs.specs.Errors.{flow_alone, BeginsByFlow, SendsByFlow, OtherMovesAreTheSame}
+use Rattle.nat_runs.specs.Errors.{NoneFindsPort}
 use Rattle.nat_runs.proofs.Knowing.{KnownAt, Known, run_known}
 
 seen_alone : (s : Settings) (p : Packet) → s.errors ≡ false → seen_by s p ≡ flow_alone (viewed p.bytes p.original)
@@ -30,6 +31,9 @@ begins_by_flow s none p = ap (λ (seen : Seen). local_at (begun s seen)) (seen_a
 
 pub sends_by_flow : SendsByFlow
 sends_by_flow s none p l = ap (λ (seen : Seen). bytes_out s p.bytes (noted l) seen) (seen_alone s p none)
+
+pub other_moves_are_the_same : OtherMovesAreTheSame
+other_moves_are_the_same s errors = refl
 
 pub none_finds_port : NoneFindsPort
 none_finds_port s threads inputs steps t h is history none there at =

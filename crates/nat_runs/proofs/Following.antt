@@ -1,10 +1,9 @@
 -- Connections are followed as the settings say.
-use Rattle.std.proofs.Common.{◌≡◌, ℕ, ◌+◌, ◌*◌, ◌<◌, List, refl, sym, ap, ◌∙◌, subst, ◌⊎◌, inl, inr, Option, Some, None}
+use Rattle.std.proofs.Common.{◌≡◌, ℕ, refl, sym, ap, ◌∙◌, ◌⊎◌, inl, inr, Option, Some, None}
 use Rattle.std.specs.Prelude.{Result, Ok, Err}
 use Rattle.packet_headers.specs.declared.flow.NotFlow.{NotFlow}
-use Rattle.plain_text.specs.declared.packet.Packet.{Packet}
 use Rattle.packet_headers.specs.declared.flow.Flow.{Flow}
-use Rattle.plain_machine.specs.History.{Step, value_after, IsHistory}
+use Rattle.plain_machine.specs.History.{value_after}
 use Rattle.plain_machine.proofs.Bounds.{values_fit}
 use Rattle.nat_tables.specs.declared.entries.Endpoint.{Endpoint}
 use Rattle.nat_tables.specs.declared.slot.Slot.{Slot}
@@ -12,15 +11,15 @@ use Rattle.nat_tables.specs.declared.phase.Phase.{Phase}
 use Rattle.nat_tables.specs.declared.phase.Phase.TheVariants.{Plain, Opening, Established, Closing}
 use Rattle.nat_tables.specs.declared.phase.Phase.TheVariants.{EndedByClient, EndedByServer, Kept}
 use Rattle.nat_tables.specs.declared.phase.Segment.TheVariants.{Silent}
-use Rattle.nat_tables.specs.Forwards.{Forwards}
 use Rattle.nat_box.specs.declared.place.Class.{Class}
 use Rattle.nat_box.specs.declared.place.Noted.{Noted}
 use Rattle.nat_box.specs.declared.value.NatValue.{NatValue}
 use Rattle.nat_box.specs.declared.value.NatValue.TheVariants.{Dropped, Free, Mapped, Taken}
 use Rattle.nat_box.specs.Places.{place_numbered, noted}
-use Rattle.nat_box.specs.Nat.{Settings, flow_in, class_in, segment_told, begun_by, begun, touched, followed_by, followed}
+use Rattle.nat_box.specs.Nat.{Settings, flow_in, class_in, segment_told, begun_by, touched_by, followed_by}
+use Rattle.nat_box.specs.Nat.{followed}
 use Rattle.nat_box.specs.Nat.{local_at, nat_meaning, HasPhase, MayMap, Fits}
-use Rattle.nat_box.specs.Lawful.{AreSettings, nat_lawful}
+use Rattle.nat_box.specs.Lawful.{nat_lawful}
 use Rattle.nat_box.specs.Sentences.{Has, mappings_in}
 use Rattle.nat_runs.specs.Following.{IsFollowedBy, FollowedByTheLine, NoneFollowedWithoutIt, TouchesAsBefore}
 use Rattle.nat_runs.specs.Following.{BeginsAsBefore}
@@ -74,7 +73,7 @@ not_followed s n (Taken bs) none = refl
 
 pub touches_as_before : TouchesAsBefore
 touches_as_before s none v x l =
-    let r = touched (place_numbered l.at) x (noted l) in
+    let r = touched_by s.limit (place_numbered l.at) x (noted l) in
     ap (λ (left : NatValue). (left, local_at r.1)) (not_followed s (noted l) r.0 none)
 
 pub begins_as_before : BeginsAsBefore

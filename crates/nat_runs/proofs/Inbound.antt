@@ -13,7 +13,7 @@ use Rattle.nat_box.specs.declared.place.Class.TheVariants.{Inbound}
 use Rattle.nat_box.specs.declared.place.Noted.{Noted}
 use Rattle.nat_box.specs.declared.value.NatValue.{NatValue}
 use Rattle.nat_box.specs.Places.{noted}
-use Rattle.nat_box.specs.Nat.{Settings, touched, followed, nat_meaning, Fits}
+use Rattle.nat_box.specs.Nat.{Settings, touched_by, followed, nat_meaning, Fits}
 use Rattle.nat_box.specs.Lawful.{AreSettings, var_of, touches_it, nat_lawful}
 use Rattle.nat_box.proofs.Making.{comes_to}
 use Rattle.nat_runs.specs.Met.{Met, met_of}
@@ -39,9 +39,9 @@ not_on_way s m p n (inr error) on =
 touches_counts : (s : Settings) (m : Met) (p : Packet) (place : Place) (x : NatValue) (n : Noted) → TouchKind place x
     → IsInbound s p ⊎ IsError p → KnownAt s m p place n → var_of s place n ≡ 0
 touches_counts s m p _ _ n (finds es) i k = absurd (not_on_way s m p n i k)
-touches_counts s m p _ _ n (unbinds_freed bs) i k = absurd (not_on_way s m p n i k)
-touches_counts s m p _ _ n (gives_freed pool) i k = absurd (not_on_way s m p n i k)
-touches_counts s m p _ _ n (reserves pool) i k = absurd (not_on_way s m p n i k)
+touches_counts s m p _ _ n (unbinds_freed bs) i k = absurd (not_on_way s m p n i k.0)
+touches_counts s m p _ _ n (gives_freed pool) i k = absurd (not_on_way s m p n i k.0)
+touches_counts s m p _ _ n (reserves pool) i k = absurd (not_on_way s m p n i k.0)
 touches_counts s m p _ _ n (binds bs) i k = absurd (not_on_way s m p n i k)
 touches_counts s m p _ _ n (finds_or_binds es) i k = absurd (not_on_way s m p n i k)
 touches_counts s m p _ _ n (unbinds_lost bs) i k = absurd (not_on_way s m p n i k.0)
@@ -61,7 +61,7 @@ module _ (s : Settings) (is : AreSettings s) (packets : List Packet) (value : �
 
   at_touch : (h : Hand) (w : ℕ) → comes_to s h (Access w) → Known s m (Some h)
       → IsInbound s h.packet ⊎ IsError h.packet
-      → cond (nat_eq w v) (followed s (noted h.place) (touched (at h) (value w) (noted h.place)).0) (value v)
+      → cond (nat_eq w v) (followed s (noted h.place) (touched_by s.limit (at h) (value w) (noted h.place)).0) (value v)
       ≡ value v
   at_touch h w move k inbound =
       let below = touched_below s is h w move in
@@ -70,8 +70,8 @@ module _ (s : Settings) (is : AreSettings s) (packets : List Packet) (value : �
       let it : var_of s (at h) (noted h.place) ≡ w = touches_it s (at h) (noted h.place) w move in
       let none : w ≡ 0 = sym it ∙ zero_at in
       let other : nat_eq w v ≡ false = not_eq w v (λ q. absurd (omega arith)) in
-      ap
-      (λ (b : Bool). cond b (followed s (noted h.place) (touched (at h) (value w) (noted h.place)).0) (value v)) other
+      ap (λ (b : Bool).
+      cond b (followed s (noted h.place) (touched_by s.limit (at h) (value w) (noted h.place)).0) (value v)) other
 
   pub move_keeps : (after : Thread) (d : Effect NatValue) (hand : Option Hand) (a : Option ℕ)
       → held_move (nat_meaning s) packets value taken a hand ≡ Moves after d → Keeps hand after.hand d

@@ -2,7 +2,8 @@
 use Rattle.std.proofs.Common.{◌≡◌, ◌≢◌, ℕ, ◌+◌, ◌*◌, ◌%◌, ◌^◌, ◌<◌, ◌≤◌, Bool, true, false, List, [], ◌∷◌, ◌++◌, refl}
 use Rattle.std.proofs.Common.{sym, ap, ◌/◌}
 use Rattle.std.proofs.Common.{◌∙◌, subst, ◌⊎◌, inl, inr, arith, Option, Some, None}
-use Rattle.std.specs.Prelude.{Result, Ok, Err}
+use Rattle.std.specs.Prelude.{Result, Ok, Err, ◌==◌, if◌then◌else◌}
+use Rattle.std.proofs.lemmas.Bool.Decides.{nat_tests}
 use Rattle.plain_text.specs.declared.packet.Packet.{Packet}
 use Rattle.entry_order.proofs.Order.{is_or}
 use Rattle.packet_headers.specs.declared.flow.Flow.{Flow}
@@ -29,6 +30,7 @@ use Rattle.nat_tables.specs.Ports.{PoolPorts, reserve}
 use Rattle.nat_tables.specs.Forwards.{Forwards, refresh, refreshed, is_idle, slot_of, first_idle, found_there, found}
 use Rattle.nat_tables.specs.Forwards.{bound}
 use Rattle.nat_tables.specs.Forwards.{port_of, lives}
+use Rattle.nat_tables.specs.Hosts.{count_of, is_full}
 use Rattle.nat_tables.specs.Reverses.{Reverses, endpoint_of}
 use Rattle.nat_box.specs.declared.place.Place.{Place}
 use Rattle.nat_box.specs.declared.place.Place.TheVariants.{HearsTime, FindsMapping, UnbindsFreed, GivesBackFreed}
@@ -44,27 +46,30 @@ use Rattle.flow_boxes.specs.Flows.{endpoint, source_of}
 use Rattle.nat_box.specs.Places.{place_numbered, noted, dest_key, local_of, number_of_segment, segment_numbered}
 use Rattle.nat_box.specs.declared.place.Goes.{Goes}
 use Rattle.nat_box.specs.Nat.{Settings, goes, forward_table, reverse_table, class_of_flow, flow_in, class_in, flow_seen}
-use Rattle.nat_box.specs.Nat.{class_seen, seen_by, noted_flow, used_port, after_port}
+use Rattle.nat_box.specs.Nat.{class_seen, seen_by, noted_flow, used_slot, used_port, after_port}
 use Rattle.flow_boxes.specs.Drops.{reason_of}
+use Rattle.nat_box.specs.Nat.{dropped, over_limit, after_find_within, after_bind_within, after_lost, touched_by}
 use Rattle.nat_box.specs.Nat.{begun_by, segment_told, followed_by, followed}
-use Rattle.nat_box.specs.Nat.{begun, mapped, after_find, after_reserve, after_bind, touched, after_endpoint, looked_by}
+use Rattle.nat_box.specs.Nat.{begun, mapped, after_find, after_reserve, after_bind, after_endpoint, looked_by}
 use Rattle.nat_box.specs.Nat.{looked, after_time, told, local_at, nat_meaning, MayMap, MayBind, Fits}
 use Rattle.nat_box.specs.Noting.{place_again, class_again, segment_again, IsNoted, is_noted, noted_again}
 use Rattle.nat_box.specs.Lawful.{AreSettings, var_of, touches_it, reads_it, nat_lawful}
 use Rattle.nat_box.specs.PortStanding.{free_at}
-use Rattle.nat_box.specs.Sentences.{Has, mappings_in, bound_in}
+use Rattle.nat_box.specs.Sentences.{Has, mappings_in, bound_in, IsMapping}
 use Rattle.nat_box.proofs.Noting.{touched_noted}
 use Rattle.nat_box.proofs.Making.{goes_on}
 use Rattle.nat_box.proofs.Following.{slot_followed}
 use Rattle.nat_runs.specs.Classes.{IsFromInside, GoesInside}
 use Rattle.nat_runs.specs.Met.{Met, nothing_met, met_by_touch, met_by_read, met_by, met_of}
 use Rattle.nat_runs.specs.Causes.{IsUnbound, HasNoneUsed, FoundNoneUsed, Cause}
-use Rattle.nat_runs.proofs.TableEntries.{endpoint_in, not_bound, AreIdle, lives_not, may_endpoint, may_mapping}
+use Rattle.nat_runs.proofs.TableEntries.{slot_in, endpoint_in, not_bound, AreIdle, lives_not, may_endpoint, may_mapping}
 use Rattle.nat_runs.proofs.TableEntries.{none_free}
 use Rattle.flow_boxes.proofs.Fitting.{slot_refreshed, slot_bound}
 use Rattle.nat_box.proofs.SeenAs.{flow_whole, same_flow, seen_flow}
 use Rattle.nat_box.proofs.UsedPorts.{unused_lives_not}
 use Rattle.nat_box.proofs.Emissions.{IsOutward, IsInward, IfOutward, worded, targeted, port_noted, small_used}
+use Rattle.nat_runs.proofs.Within.{by_find, by_bind, full_has, found_none, count_followed, none_followed_there}
+use Rattle.nat_runs.proofs.Within.{mapped_ports}
 use Rattle.nat_runs.proofs.ThreadMoves.{TouchKind, finds, unbinds_freed, gives_freed, reserves, binds, finds_or_binds}
 use Rattle.nat_runs.proofs.ThreadMoves.{unbinds_lost, gives_lost, counts, LookKind, finds_endpoint, asks, finds_port}
 use Rattle.nat_runs.proofs.ThreadMoves.{touch_kind}
@@ -86,10 +91,29 @@ IsTold s m p n = IsBase s p n × (m.clock ≡ Some n.time)
 abbrev pub IsOnWay : Settings → Met → Packet → Noted → Type 0
 IsOnWay s m p n = IsBase s p n × (m.clock ≡ Some n.time) × IsOutward n.class
 
+-- its source had no mapping that is not idle
+abbrev pub WasUnmapped : Settings → Met → Noted → Type 0
+WasUnmapped s m n =
+    (value : ℕ → NatValue) × (m.at_touch ≡ Some value) × ((port : ℕ) → HasNoneUsed s value n.source port n.time)
+
+-- and it takes a port for it
+abbrev pub IsWanting : Settings → Met → Packet → Noted → Type 0
+IsWanting s m p n = IsOnWay s m p n × WasUnmapped s m n
+
 -- the mapping of its source was used at its time or later
 abbrev pub Refreshed : Met → Noted → Type 0
 Refreshed m n =
     (es : Forwards) × (slot : Slot) × (m.left ≡ Some es) × (slot_of n.source es ≡ Some slot) × (n.time ≤ slot.last)
+
+-- its host had as many mappings as it may have, and its source none, in the table as its touch left it
+abbrev pub IsRefused : Settings → Met → Noted → Type 0
+IsRefused s m n =
+    (most : ℕ) × (s.limit ≡ Some most) × (es : Forwards) × (m.left ≡ Some es) × (slot_of n.source es ≡ None)
+    × (most ≤ count_of n.source.protocol n.source.address es)
+
+-- it gives back the port that it bound: its source has another, or may have none, and then its port is 0
+abbrev pub HasLost : Settings → Met → Noted → Type 0
+HasLost s m n = (Refreshed m n × (1 ≤ n.port)) ⊎ (IsRefused s m n × (n.port ≡ 0))
 
 abbrev pub IsBoundTo : Met → Noted → Type 0
 IsBoundTo m n =
@@ -97,19 +121,19 @@ IsBoundTo m n =
     × Has (bound_in (value v)) (dest_key n, key) × (n.target ≡ endpoint n.source.protocol key.address key.port)
 
 abbrev pub IsToCount : Settings → Met → Packet → Noted → Type 0
-IsToCount s m p n = (1 ≤ n.word) × (n.word ≤ 9) × (AreBytes p.bytes → Cause s p m n.word)
+IsToCount s m p n = (1 ≤ n.word) × (n.word ≤ 10) × (AreBytes p.bytes → Cause s p m n.word)
 
 abbrev pub KnownAt : Settings → Met → Packet → Place → Noted → Type 0
 KnownAt s m p HearsTime n = IsBase s p n
 KnownAt s m p FindsMapping n = IsOnWay s m p n
-KnownAt s m p UnbindsFreed n = IsOnWay s m p n
-KnownAt s m p GivesBackFreed n = IsOnWay s m p n
-KnownAt s m p DrawsWord n = IsOnWay s m p n
-KnownAt s m p ReservesPort n = IsOnWay s m p n
+KnownAt s m p UnbindsFreed n = IsWanting s m p n
+KnownAt s m p GivesBackFreed n = IsWanting s m p n
+KnownAt s m p DrawsWord n = IsWanting s m p n
+KnownAt s m p ReservesPort n = IsWanting s m p n
 KnownAt s m p BindsPort n = IsOnWay s m p n
 KnownAt s m p FindsOrBinds n = IsOnWay s m p n
-KnownAt s m p UnbindsLost n = IsOnWay s m p n × Refreshed m n
-KnownAt s m p GivesBackLost n = IsOnWay s m p n × Refreshed m n
+KnownAt s m p UnbindsLost n = IsOnWay s m p n × HasLost s m n
+KnownAt s m p GivesBackLost n = IsOnWay s m p n × HasLost s m n
 KnownAt s m p FindsEndpoint n = IsTold s m p n × IsInward n.class × IfOutward n.class (Refreshed m n)
 KnownAt s m p AsksIfLives n = IsTold s m p n × IsInward n.class × IfOutward n.class (Refreshed m n) × IsBoundTo m n
 KnownAt s m p CountsDrop n = IsToCount s m p n
@@ -293,29 +317,40 @@ module _ (s : Settings) (p : Packet) where
       omega arith,
     )
 
-    there_known : (slot : Slot) (idle : Bool) → slot_of n.source es ≡ Some slot
-        → (let f = found_there n.source n.time es slot idle in
-        KnownAt s (leaving f.1) p (after_find n f.0).place (after_find n f.0).noted)
-    there_known slot true is =
-        (base_on n (record n { freed = port_of (n.source, slot) }) refl refl refl refl k.0, k.1, k.2)
-    there_known slot false is =
-        let o : Noted = record n { port = slot.port } in
-        mapped_known (leaving (refresh n.source n.time es)) o o.class refl
-        (base_on n o refl refl refl refl k.0, k.1, k.2) (refreshes slot is)
+    -- where it has no mapping that is not idle, it had none when the packet touched the table
+    module _ (unmapped : used_port n.source n.time es ≡ None → WasUnmapped s m n) where
+      there_known : (slot : Slot) (idle : Bool) → slot_of n.source es ≡ Some slot
+          → is_idle n.time (n.source, slot) ≡ idle
+          → (let f = found_there n.source n.time es slot idle in
+          KnownAt s (leaving f.1) p (after_find n f.0).place (after_find n f.0).noted)
+      there_known slot true is q =
+          let none : used_port n.source n.time es ≡ None =
+          ap (used_slot n.source n.time) is ∙ ap (λ (b : Bool). if b then None else Some slot.port) q in
+          ((base_on n (record n { freed = port_of (n.source, slot) }) refl refl refl refl k.0, k.1, k.2), unmapped none)
+      there_known slot false is q =
+          let o : Noted = record n { port = slot.port } in
+          mapped_known (leaving (refresh n.source n.time es)) o o.class refl
+          (base_on n o refl refl refl refl k.0, k.1, k.2) (refreshes slot is)
 
-    found_known : (a : Option Slot) (b : Option (Endpoint × Slot)) → slot_of n.source es ≡ a
-        → (let f = found n.source n.time es a b in
-        KnownAt s (leaving f.1) p (after_find n f.0).place (after_find n f.0).noted)
-    found_known (Some slot) b is = there_known slot (is_idle n.time (n.source, slot)) is
-    found_known None (Some gone) is = (base_on n (record n { freed = port_of gone }) refl refl refl refl k.0, k.1, k.2)
-    found_known None None is = k
+      found_known : (a : Option Slot) (b : Option (Endpoint × Slot)) → slot_of n.source es ≡ a
+          → (let f = found n.source n.time es a b in
+          KnownAt s (leaving f.1) p (after_find n f.0).place (after_find n f.0).noted)
+      found_known (Some slot) b is = there_known slot (is_idle n.time (n.source, slot)) is refl
+      found_known None (Some gone) is = (
+        (base_on n (record n { freed = port_of gone }) refl refl refl refl k.0, k.1, k.2),
+        unmapped (ap (used_slot n.source n.time) is),
+      )
+      found_known None None is = (k, unmapped (ap (used_slot n.source n.time) is))
 
     bound_known : (a : Option Slot) → slot_of n.source es ≡ a
+        → ((slot : Slot) → slot_of n.source es ≡ Some slot → 1 ≤ slot.port)
         → (let f = bound n.source n.port n.time es a in
         KnownAt s (leaving f.1) p (after_bind n f.0).place (after_bind n f.0).noted)
-    bound_known (Some slot) is =
-        ((base_on n (after_bind n (Other slot.port)).noted refl refl refl refl k.0, k.1, k.2), refreshes slot is)
-    bound_known None is =
+    bound_known (Some slot) is some = (
+      (base_on n (after_bind n (Other slot.port)).noted refl refl refl refl k.0, k.1, k.2),
+      inl (refreshes slot is, some slot is),
+    )
+    bound_known None is some =
         let slot : Slot = record { port = n.port; last = n.time; phase = Plain } in
         let left : Forwards = es ++ (n.source, slot) ∷ [] in
         mapped_known (leaving left) n n.class refl k (left, slot, refl, slot_bound n.source slot es is, omega arith)
@@ -335,6 +370,26 @@ module _ (s : Settings) (p : Packet) where
         subst (λ (time : ℕ). n.time ≤ time) (sym later.3) r.4,
       )
 
+  refused_followed : (m q : Met) (n : Noted) (c : Option ℕ) (u : Noted) (es : Forwards) → m.left ≡ Some es
+      → q.left ≡ Some (followed_by c u es) → IsRefused s m n → IsRefused s q n
+  refused_followed m q n c u es was now r =
+      let same : Some r.2 ≡ Some es = sym r.3 ∙ was in
+      let e : r.2 ≡ es = cc in
+      let count = count_followed n.source.protocol n.source.address c u es in (
+        r.0,
+        r.1,
+        followed_by c u es,
+        now,
+        none_followed_there n.source c u es (subst (λ (x : Forwards). slot_of n.source x ≡ None) e r.4),
+        subst (λ (k : ℕ). r.0 ≤ k) (sym count)
+            (subst (λ (x : Forwards). r.0 ≤ count_of n.source.protocol n.source.address x) e r.5),
+      )
+
+  lost_followed : (m q : Met) (n : Noted) (c : Option ℕ) (u : Noted) (es : Forwards) → m.left ≡ Some es
+      → q.left ≡ Some (followed_by c u es) → HasLost s m n → HasLost s q n
+  lost_followed m q n c u es was now (inl r) = inl (refreshed_followed m q n c u es was now r.0, r.1)
+  lost_followed m q n c u es was now (inr r) = inr (refused_followed m q n c u es was now r.0, r.1)
+
   outward_by : (c : Class) (X Y : Type 0) → (X → Y) → IfOutward c X → IfOutward c Y
   outward_by Outbound X Y f k = f k
   outward_by Hairpin X Y f k = f k
@@ -348,7 +403,7 @@ module _ (s : Settings) (p : Packet) where
   left_by_followed m c u es DrawsWord n is k = k
   left_by_followed m c u es UnbindsLost n is k = (
     k.0,
-    refreshed_followed (record m { left = Some es }) (record m { left = Some (followed_by c u es) }) n c u es refl refl
+    lost_followed (record m { left = Some es }) (record m { left = Some (followed_by c u es) }) n c u es refl refl
         k.1,
   )
   left_by_followed m c u es FindsEndpoint n is k = (
@@ -378,8 +433,87 @@ module _ (s : Settings) (p : Packet) where
   left_by_followed m c u es Ends n is k = tt
   left_by_followed m c u es FindsPort n is k = absurd is
 
+  too_many : (m : Met) (n : Noted) → IsOnWay s m p n → IsRefused s m n
+      → IsToCount s m p (record n { word = over_limit })
+  too_many m n k r = (omega arith, omega arith, cause)
+    where
+      cause : AreBytes p.bytes → Cause s p m over_limit
+      cause bytes = inr (inr (inr (inr (inr (
+        k.0.flow,
+        (outward_flow s p n k.0 k.2).0,
+        from_inside s p n k.0 k.2,
+        r.0,
+        r.1,
+        r.2,
+        r.3,
+        subst (λ (key : Endpoint). slot_of key r.2 ≡ None) (k.0.source bytes) r.4,
+        subst (λ (key : Endpoint). r.0 ≤ count_of key.protocol key.address r.2) (k.0.source bytes) r.5,
+        refl,
+      )))))
+
+  lost_known : (m : Met) (n : Noted) → IsOnWay s m p n → HasLost s m n
+      → (let g = after_lost n (n.port == 0) in KnownAt s m p g.place g.noted)
+  lost_known m n k (inl r) =
+      let some : 1 ≤ n.port = r.1 in
+      let other : (n.port == 0) ≡ false = grind (arith, nat_tests) in
+      rw other (mapped_known m n n.class refl k r.0)
+  lost_known m n k (inr r) =
+      let none : n.port ≡ 0 = r.1 in
+      let same : (n.port == 0) ≡ true = grind (arith, nat_tests) in
+      rw same (too_many m n k r.0)
+
+  -- where hosts have a limit
+  module _ (m : Met) (n : Noted) (most : ℕ) (limit : s.limit ≡ Some most) (k : IsOnWay s m p n) where
+    within_known : (f : Find) (es : Forwards) → (f ≡ Absent None → slot_of n.source es ≡ None)
+        → KnownAt s (record m { left = Some es }) p (after_find n f).place (after_find n f).noted
+        → (let g = after_find_within most n f es in
+        KnownAt s (record m { left = Some (followed_by s.closing n es) }) p g.place g.noted)
+    within_known (Live port) es none known =
+        left_by_followed m s.closing n es (after_find n (Live port)).place (after_find n (Live port)).noted
+        (find_place n (Live port)) known
+    within_known (Absent (Some freed)) es none known = known
+    within_known (Absent None) es none known = by (is_full most n.source es) refl
+      where
+        left : Met
+        left = record m { left = Some (followed_by s.closing n es) }
+
+        by : (full : Bool) → is_full most n.source es ≡ full
+            → (let g = if full then dropped n over_limit else goes DrawsWord n in KnownAt s left p g.place g.noted)
+        by true full =
+            too_many left n k
+            (refused_followed (record m { left = Some es }) left n s.closing n es refl refl
+            (most, limit, es, refl, none refl, full_has most n.source es full))
+        by false full = known
+
+    refused_known : (es : Forwards) → slot_of n.source es ≡ None → is_full most n.source es ≡ true
+        → (let g = after_bind_within n None in
+        KnownAt s (record m { left = Some (followed_by s.closing n es) }) p g.place g.noted)
+    refused_known es none full =
+        let o : Noted = (after_bind_within n None).noted in
+        let old : Met = record m { left = Some es } in
+        let left : Met = record m { left = Some (followed_by s.closing n es) } in (
+          (base_on n o refl refl refl refl k.0, k.1, k.2),
+          inr (
+            refused_followed old left o s.closing n es refl refl
+                (most, limit, es, refl, none, full_has most n.source es full),
+            refl,
+          ),
+        )
+
   -- a touch, and a read, of variables with these values
-  module _ (value : ℕ → NatValue) (fits : (v : ℕ) → v < 2 + 2 * s.shards → Fits s v (value v)) where
+  module _ (value : ℕ → NatValue) (fits : (v : ℕ) → v < 2 + 2 * s.shards → Fits s v (value v))
+      (ports : (v : ℕ) (e : Endpoint × Slot) → IsMapping s value v e → 1 ≤ e.1.port) where
+    -- where the endpoint's own table has none that is not idle, no table has
+    none_used : (n : Noted) (w : ℕ) (es : Forwards) → value w ≡ Mapped es → w < 2 + 2 * s.shards
+        → forward_table s n.source ≡ w → used_port n.source n.time es ≡ None
+        → (port : ℕ) → HasNoneUsed s value n.source port n.time
+    none_used n w es is low at e port v slot h to =
+        let there : v ≡ w = mapping_at s v (value v) n.source slot (fits v h.0) h.1 ∙ at in
+        let idle : AreIdle es n.source port n.time =
+        lives_not (MayMap s w) n.source port n.time es (subst (Fits s w) is (fits w low)).2
+        (unused_lives_not n.source n.time es e port) in
+        idle slot (subst (λ (x : NatValue). Has (mappings_in x) (n.source, slot)) (ap value there ∙ is) h.1) to
+
     none_anywhere : (n : Noted) (pool : PoolPorts) (w : ℕ) → value w ≡ Free pool → 1 ≡ w
         → (reserve n.source.protocol n.source.port n.word pool).0 ≡ None → (v port : ℕ) → v < 2 + 2 * s.shards
         → free_at (port_key n.source.protocol port) (value v) ≡ 0
@@ -393,45 +527,99 @@ module _ (s : Settings) (p : Packet) where
         by (inr q) = free_elsewhere s v (value v) (port_key n.source.protocol port) (fits v below) q
 
     reserved_known : (m : Met) (n : Noted) (pool : PoolPorts) (w : ℕ) (o : Option ℕ) → value w ≡ Free pool → 1 ≡ w
-        → (reserve n.source.protocol n.source.port n.word pool).0 ≡ o → IsOnWay s m p n
+        → (reserve n.source.protocol n.source.port n.word pool).0 ≡ o → IsWanting s m p n
         → KnownAt s (record m { at_pool = Some value }) p (after_reserve n o).place (after_reserve n o).noted
     reserved_known m n pool w (Some port) is at e k =
-        (base_on n (record n { port = port }) refl refl refl refl k.0, k.1, k.2)
+        (base_on n (record n { port = port }) refl refl refl refl k.0.0, k.0.1, k.0.2)
     reserved_known m n pool w None is at e k = (omega arith, omega arith, cause)
       where
         cause : AreBytes p.bytes → Cause s p (record m { at_pool = Some value }) 8
         cause bytes = inr (inr (inl (
-          k.0.flow,
-          (outward_flow s p n k.0 k.2).0,
-          from_inside s p n k.0 k.2,
+          k.0.0.flow,
+          (outward_flow s p n k.0.0 k.0.2).0,
+          from_inside s p n k.0.0 k.0.2,
+          (
+            k.1.0,
+            n.time,
+            k.1.1,
+            k.0.1,
+            subst (λ (key : Endpoint). (port : ℕ) → HasNoneUsed s k.1.0 key port n.time) (k.0.0.source bytes) k.1.2,
+          ),
           value,
           refl,
           subst (λ (q : ℕ). (v port : ℕ) → v < 2 + 2 * s.shards → free_at (port_key q port) (value v) ≡ 0)
-              (ap (λ (q : Endpoint). q.protocol) (k.0.source bytes)) (none_anywhere n pool w is at e),
+              (ap (λ (q : Endpoint). q.protocol) (k.0.0.source bytes)) (none_anywhere n pool w is at e),
           refl,
         )))
 
-    touch_known : (m : Met) (w : ℕ) (place : Place) (x : NatValue) (n : Noted) → value w ≡ x → TouchKind place x
-        → var_of s place n ≡ w → KnownAt s m p place n
-        → (let r = touched place x n in
+    own_port : (w : ℕ) (es : Forwards) (key : Endpoint) → value w ≡ Mapped es → w < 2 + 2 * s.shards → (slot : Slot)
+        → slot_of key es ≡ Some slot → 1 ≤ slot.port
+    own_port w es key is low slot there =
+        ports w (key, slot)
+        (low, subst (λ (x : NatValue). Has (mappings_in x) (key, slot)) (sym is) (slot_in key slot es there))
+
+    touch_known : (m : Met) (w : ℕ) (place : Place) (x : NatValue) (n : Noted) (limit : Option ℕ) → s.limit ≡ limit
+        → value w ≡ x → w < 2 + 2 * s.shards → TouchKind place x → var_of s place n ≡ w → KnownAt s m p place n
+        → (let r = touched_by limit place x n in
         KnownAt s (met_by_touch value x (Some (followed s n r.0)) m) p r.1.place r.1.noted)
-    touch_known m w _ _ n is (finds es) at k =
+    touch_known m w _ _ n None limit is low (finds es) at k =
         let f = found n.source n.time es (slot_of n.source es) (first_idle n.time es) in
-        left_by_followed m s.closing n f.1 (after_find n f.0).place (after_find n f.0).noted (find_place n f.0)
-        (found_known m n es k (slot_of n.source es) (first_idle n.time es) refl)
-    touch_known m w _ _ n is (unbinds_freed bs) at k = k
-    touch_known m w _ _ n is (gives_freed pool) at k = k
-    touch_known m w _ _ n is (reserves pool) at k =
+        let q : Met = record m { at_touch = Some value } in
+        left_by_followed q s.closing n f.1 (after_find n f.0).place (after_find n f.0).noted (find_place n f.0)
+        (found_known q n es k (λ e. (value, refl, none_used n w es is low at e)) (slot_of n.source es)
+        (first_idle n.time es) refl)
+    touch_known m w _ _ n (Some most) limit is low (finds es) at k =
+        let a : Option Slot = slot_of n.source es in
+        let b : Option (Endpoint × Slot) = first_idle n.time es in
+        let f = found n.source n.time es a b in
+        let q : Met = record m { at_touch = Some value } in
+        let unmapped : used_port n.source n.time es ≡ None → WasUnmapped s q n =
+        (λ e. (value, refl, none_used n w es is low at e)) in
+        by_find most n.source n.time es
+        (λ (r : Find × Forwards).
+        let g = after_find_within most n r.0 r.1 in
+        KnownAt s (record q { left = Some (followed_by s.closing n r.1) }) p g.place g.noted)
+        (within_known q n most limit k f.0 f.1 (found_none n.source n.time es a b refl)
+        (found_known q n es k unmapped a b refl))
+        (λ e none idle. (
+          (base_on n (record n { freed = port_of e }) refl refl refl refl k.0, k.1, k.2),
+          unmapped (ap (used_slot n.source n.time) none),
+        ))
+    touch_known m w _ _ n None limit is low (unbinds_freed bs) at k = k
+    touch_known m w _ _ n (Some most) limit is low (unbinds_freed bs) at k = k
+    touch_known m w _ _ n None limit is low (gives_freed pool) at k = k
+    touch_known m w _ _ n (Some most) limit is low (gives_freed pool) at k = k
+    touch_known m w _ _ n None limit is low (reserves pool) at k =
         reserved_known m n pool w (reserve n.source.protocol n.source.port n.word pool).0 is at refl k
-    touch_known m w _ _ n is (binds bs) at k = k
-    touch_known m w _ _ n is (finds_or_binds es) at k =
+    touch_known m w _ _ n (Some most) limit is low (reserves pool) at k =
+        reserved_known m n pool w (reserve n.source.protocol n.source.port n.word pool).0 is at refl k
+    touch_known m w _ _ n None limit is low (binds bs) at k = k
+    touch_known m w _ _ n (Some most) limit is low (binds bs) at k = k
+    touch_known m w _ _ n None limit is low (finds_or_binds es) at k =
         let b = bound n.source n.port n.time es (slot_of n.source es) in
-        left_by_followed m s.closing n b.1 (after_bind n b.0).place (after_bind n b.0).noted (bind_place n b.0)
-        (bound_known m n es k (slot_of n.source es) refl)
-    touch_known m w _ _ n is (unbinds_lost bs) at k = k
-    touch_known m w _ _ n is (gives_lost pool) at k =
-        mapped_known (record m { at_pool = Some value }) n n.class refl k.0 k.1
-    touch_known m w _ _ n is (counts d) at k = tt
+        let q : Met = record m { at_touch = Some value } in
+        left_by_followed q s.closing n b.1 (after_bind n b.0).place (after_bind n b.0).noted (bind_place n b.0)
+        (bound_known q n es k (slot_of n.source es) refl (own_port w es n.source is low))
+    touch_known m w _ _ n (Some most) limit is low (finds_or_binds es) at k =
+        let b = bound n.source n.port n.time es (slot_of n.source es) in
+        let q : Met = record m { at_touch = Some value } in
+        by_bind most n.source n.time es n.port
+        (λ (r : Option Bind × Forwards).
+        let g = after_bind_within n r.0 in
+        KnownAt s (record q { left = Some (followed_by s.closing n r.1) }) p g.place g.noted)
+        (left_by_followed q s.closing n b.1 (after_bind n b.0).place (after_bind n b.0).noted (bind_place n b.0)
+        (bound_known q n es k (slot_of n.source es) refl (own_port w es n.source is low)))
+        (refused_known q n most limit k es)
+    touch_known m w _ _ n None limit is low (unbinds_lost bs) at k = k
+    touch_known m w _ _ n (Some most) limit is low (unbinds_lost bs) at k = k
+    touch_known m w _ _ n None limit is low (gives_lost pool) at (k, inl r) =
+        mapped_known (record m { at_pool = Some value }) n n.class refl k r.0
+    touch_known m w _ _ n None limit is low (gives_lost pool) at (k, inr r) =
+        let both : None ≡ Some r.0.0 = sym limit ∙ r.0.1 in absurd (cc)
+    touch_known m w _ _ n (Some most) limit is low (gives_lost pool) at k =
+        lost_known (record m { at_pool = Some value }) n k.0 k.1
+    touch_known m w _ _ n None limit is low (counts d) at k = tt
+    touch_known m w _ _ n (Some most) limit is low (counts d) at k = tt
 
     same_port_key : (n : Noted) (base : IsBase s p n) → AreBytes p.bytes
         → dest_key n ≡ port_key base.flow.protocol base.flow.dest_port
@@ -524,18 +712,10 @@ module _ (s : Settings) (p : Packet) where
         )
     port_known m n w es None is low at e k = (omega arith, omega arith, cause)
       where
-        none : (port : ℕ) → HasNoneUsed s value n.source port n.time
-        none port v slot h to =
-            let there : v ≡ w = mapping_at s v (value v) n.source slot (fits v h.0) h.1 ∙ at in
-            let idle : AreIdle es n.source port n.time =
-            lives_not (MayMap s w) n.source port n.time es (subst (Fits s w) is (fits w low)).2
-            (unused_lives_not n.source n.time es e port) in
-            idle slot (subst (λ (x : NatValue). Has (mappings_in x) (n.source, slot)) (ap value there ∙ is) h.1) to
-
         cause : AreBytes p.bytes → Cause s p (record m { at_forward = Some value }) 7
         cause bytes =
             let base : IsBase s p n = k.0.0 in
-            inr (inr (inr (inr (
+            inr (inr (inr (inr (inl (
               base.flow,
               base.seen,
               base.class ∙ ap (λ (c : Class). Some c) k.1,
@@ -543,9 +723,10 @@ module _ (s : Settings) (p : Packet) where
               n.time,
               refl,
               k.0.1,
-              subst (λ (key : Endpoint). (port : ℕ) → HasNoneUsed s value key port n.time) (base.source bytes) none,
+              subst (λ (key : Endpoint). (port : ℕ) → HasNoneUsed s value key port n.time) (base.source bytes)
+                  (none_used n w es is low at e),
               refl,
-            ))))
+            )))))
 
     look_known : (m : Met) (w : ℕ) (place : Place) (x : NatValue) (n : Noted) → value w ≡ x → LookKind place x
         → w < 2 + 2 * s.shards → var_of s place n ≡ w → KnownAt s m p place n
@@ -567,7 +748,7 @@ module _ (s : Settings) (p : Packet) where
 
 -- The beginning
 
-reason_low : (answer : NotFlow) → (1 ≤ reason_of answer) × (reason_of answer ≤ 9)
+reason_low : (answer : NotFlow) → (1 ≤ reason_of answer) × (reason_of answer ≤ 10)
 reason_low Short = (omega arith, omega arith)
 reason_low NotIpv4 = (omega arith, omega arith)
 reason_low BadHeaderLength = (omega arith, omega arith)
@@ -631,7 +812,8 @@ module _ (s : Settings) (p : Packet) where
 
 module _ (s : Settings) (is : AreSettings s) (packets : List Packet) (value : ℕ → NatValue) (t : ℕ)
     (earlier : List (Step NatValue)) (taken taken_then : ℕ)
-    (fits : (v : ℕ) → v < 2 + 2 * s.shards → Fits s v (value v)) (m : Met) where
+    (fits : (v : ℕ) → v < 2 + 2 * s.shards → Fits s v (value v))
+    (ports : (v : ℕ) (e : Endpoint × Slot) → IsMapping s value v e → 1 ≤ e.1.port) (m : Met) where
   abbrev Keeps : Option Hand → Option Hand → Effect NatValue → Type 0
   Keeps before after d = Known s m before → Known s (met_by value (act_of t earlier taken_then d) m) after
 
@@ -652,10 +834,10 @@ module _ (s : Settings) (is : AreSettings s) (packets : List Packet) (value : �
   told_word h a place q k =
       let n : Noted = noted h.place in
       let o : Noted = record n { word = a } in
-      let on : IsOnWay s m h.packet n = subst (λ (z : Place). KnownAt s m h.packet z n) q k in
+      let on : IsWanting s m h.packet n = subst (λ (z : Place). KnownAt s m h.packet z n) q k in
       subst (λ (z : Place). Known s m (goes_on h (told z a n))) (sym q)
       (known_on s m h (goes ReservesPort o) (worded n a (is_noted h.place))
-      (base_on s h.packet n o refl refl refl refl on.0, on.1, on.2))
+      ((base_on s h.packet n o refl refl refl refl on.0.0, on.0.1, on.0.2), on.1))
 
   pub move_keeps : (after : Thread) (d : Effect NatValue) (hand : Option Hand) (a : Option ℕ)
       → held_move (nat_meaning s) packets value taken a hand ≡ Moves after d → Keeps hand after.hand d
@@ -663,10 +845,10 @@ module _ (s : Settings) (is : AreSettings s) (packets : List Packet) (value : �
       by_move s packets value taken Keeps (λ p input k. begun_known s p)
       (λ h v w k.
       let below = touched_below s is h v w in
-      let r = touched (at h) (value v) (noted h.place) in
+      let r = touched_by s.limit (at h) (value v) (noted h.place) in
       known_on s (met_by_touch value (value v) (Some (followed s (noted h.place) r.0)) m) h r.1
       (touched_noted s (at h) (value v) (noted h.place) v (is_noted h.place) (fits v below))
-      (touch_known s h.packet value fits m v (at h) (value v) (noted h.place) refl
+      (touch_known s h.packet value fits ports m v (at h) (value v) (noted h.place) s.limit refl refl below
       (touch_kind s is.some (noted h.place) v (value v) (fits v below) (at h) w)
       (touches_it s (at h) (noted h.place) v w) k))
       (λ h v w k.
@@ -674,7 +856,7 @@ module _ (s : Settings) (is : AreSettings s) (packets : List Packet) (value : �
       let kind = look_kind s is.some (noted h.place) v (value v) (fits v below) (at h) w in
       known_on s (met_by_read value (value v) m) h (looked (at h) (value v) (noted h.place))
       (looked_noted s v (at h) (value v) (noted h.place) kind (fits v below) (is_noted h.place))
-      (look_known s h.packet value fits m v (at h) (value v) (noted h.place) refl kind below
+      (look_known s h.packet value fits ports m v (at h) (value v) (noted h.place) refl kind below
       (reads_it s (at h) (noted h.place) v w) k))
       (λ h x w k. told_time h x (at h) (at_clock s (at h) (noted h.place) w) k)
       (λ h x w k. told_word h x (at h) (at_draw s (at h) (noted h.place) w) k)
@@ -687,7 +869,8 @@ run_known s threads inputs [] is h t = tt
 run_known s threads inputs (x ∷ earlier) is h t =
     let fits = values_fit (nat_meaning s) (Fits s) (nat_lawful s is) inputs threads earlier h.1 in
     let new = move_keeps s is (inputs x.thread) (value_after (nat_meaning s) earlier) x.thread earlier
-    (thread_after earlier x.thread).taken x.after.taken fits (met_of s x.thread earlier) x.after h.0.2
+    (thread_after earlier x.thread).taken x.after.taken fits
+    (mapped_ports s threads inputs earlier is h.1) (met_of s x.thread earlier) x.after h.0.2
     (thread_after earlier x.thread).hand h.0.1 h.0.3 (run_known s threads inputs earlier is h.1 x.thread) in
     by (is_or x.thread t) new (run_known s threads inputs earlier is h.1 t)
   where

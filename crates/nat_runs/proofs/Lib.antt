@@ -1,5 +1,6 @@
 pub mod TableEntries
 pub mod MarkedEntries
+pub mod Within
 pub mod ThreadMoves
 pub mod Knowing
 pub mod Staying
@@ -11,5 +12,7 @@ pub mod Causes
 pub mod Passing
 pub mod Refreshing
 pub mod StaticPorts
+pub mod StaticSources
 pub mod Errors
+pub mod Limits
 pub mod Phasing

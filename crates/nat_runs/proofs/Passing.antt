@@ -20,7 +20,8 @@ use Rattle.nat_tables.specs.declared.entries.Find.TheVariants.{Live, Absent}
 use Rattle.nat_tables.specs.declared.entries.Bind.{Bind}
 use Rattle.nat_tables.specs.declared.entries.Bind.TheVariants.{Bound, Other}
 use Rattle.nat_tables.specs.Ports.{reserve}
-use Rattle.nat_tables.specs.Forwards.{find, find_or_bind, lives}
+use Rattle.nat_tables.specs.Forwards.{Forwards, find, find_or_bind, lives}
+use Rattle.nat_tables.specs.Hosts.{is_full, find_within, bind_within}
 use Rattle.nat_tables.specs.Reverses.{endpoint_of}
 use Rattle.nat_box.specs.declared.place.Place.{Place}
 use Rattle.nat_box.specs.declared.place.Place.TheVariants.{HearsTime, DrawsWord}
@@ -33,9 +34,12 @@ use Rattle.nat_box.specs.declared.value.NatValue.TheVariants.{Dropped, Free, Map
 use Rattle.nat_box.specs.Places.{noted, dest_key}
 use Rattle.nat_box.specs.declared.place.Goes.{Goes}
 use Rattle.nat_box.specs.declared.seeing.Seen.{Seen}
-use Rattle.nat_box.specs.Nat.{Settings, seen_by, flow_in, class_in, begun_by, begun, mapped, after_find, after_reserve}
+use Rattle.flow_boxes.specs.Drops.{with_drop}
+use Rattle.nat_box.specs.Nat.{Settings, goes, seen_by, flow_in, class_in, begun_by, begun, mapped, after_find}
+use Rattle.nat_box.specs.Nat.{after_reserve}
 use Rattle.nat_box.specs.Nat.{after_bind, used_port, after_port}
-use Rattle.nat_box.specs.Nat.{touched, followed, after_endpoint, looked_by, looked, after_time, told, nat_meaning}
+use Rattle.nat_box.specs.Nat.{dropped, over_limit, after_find_within, after_bind_within, after_lost, touched_by}
+use Rattle.nat_box.specs.Nat.{followed, after_endpoint, looked_by, looked, after_time, told, nat_meaning}
 use Rattle.nat_box.specs.Nat.{Fits}
 use Rattle.nat_box.specs.Noting.{place_again}
 use Rattle.nat_box.specs.Lawful.{AreSettings, var_of, touches_it, nat_lawful}
@@ -84,19 +88,48 @@ reserved_waits : (n : Noted) (o : Option ℕ) → waits_at (after_reserve n o).p
 reserved_waits n (Some port) = refl
 reserved_waits n None = refl
 
+within_waits : (most : ℕ) (n : Noted) (f : Find) (es : Forwards)
+    → waits_at (after_find_within most n f es).place ≡ 1
+within_waits most n (Live port) es = found_waits n (Live port)
+within_waits most n (Absent (Some freed)) es = refl
+within_waits most n (Absent None) es = by (is_full most n.source es)
+  where
+    by : (full : Bool) → waits_at (if full then dropped n over_limit else goes DrawsWord n).place ≡ 1
+    by true = refl
+    by false = refl
+
+bind_waits : (n : Noted) (b : Option Bind) → waits_at (after_bind_within n b).place ≡ 1
+bind_waits n (Some bind) = bound_waits n bind
+bind_waits n None = refl
+
+lost_waits : (n : Noted) (none : Bool) → waits_at (after_lost n none).place ≡ 1
+lost_waits n true = refl
+lost_waits n false = mapped_waits n n.class
+
 -- before and after a touch of another variable than the counts
-touch_waits : (s : Settings) (place : Place) (x : NatValue) (n : Noted) → TouchKind place x → var_of s place n ≢ 0
-    → (waits_at place ≡ 1) × (waits_at (touched place x n).1.place ≡ 1)
-touch_waits s _ _ n (finds es) other = (refl, found_waits n (find n.source n.time es).0)
-touch_waits s _ _ n (unbinds_freed bs) other = (refl, refl)
-touch_waits s _ _ n (gives_freed pool) other = (refl, refl)
-touch_waits s _ _ n (reserves pool) other =
+touch_waits : (s : Settings) (place : Place) (x : NatValue) (n : Noted) (limit : Option ℕ) → TouchKind place x
+    → var_of s place n ≢ 0 → (waits_at place ≡ 1) × (waits_at (touched_by limit place x n).1.place ≡ 1)
+touch_waits s _ _ n None (finds es) other = (refl, found_waits n (find n.source n.time es).0)
+touch_waits s _ _ n (Some most) (finds es) other =
+    let r = find_within most n.source n.time es in (refl, within_waits most n r.0 r.1)
+touch_waits s _ _ n None (unbinds_freed bs) other = (refl, refl)
+touch_waits s _ _ n (Some most) (unbinds_freed bs) other = (refl, refl)
+touch_waits s _ _ n None (gives_freed pool) other = (refl, refl)
+touch_waits s _ _ n (Some most) (gives_freed pool) other = (refl, refl)
+touch_waits s _ _ n None (reserves pool) other =
     (refl, reserved_waits n (reserve n.source.protocol n.source.port n.word pool).0)
-touch_waits s _ _ n (binds bs) other = (refl, refl)
-touch_waits s _ _ n (finds_or_binds es) other = (refl, bound_waits n (find_or_bind n.source n.port n.time es).0)
-touch_waits s _ _ n (unbinds_lost bs) other = (refl, refl)
-touch_waits s _ _ n (gives_lost pool) other = (refl, mapped_waits n n.class)
-touch_waits s _ _ n (counts d) other = absurd (other refl)
+touch_waits s _ _ n (Some most) (reserves pool) other =
+    (refl, reserved_waits n (reserve n.source.protocol n.source.port n.word pool).0)
+touch_waits s _ _ n None (binds bs) other = (refl, refl)
+touch_waits s _ _ n (Some most) (binds bs) other = (refl, refl)
+touch_waits s _ _ n None (finds_or_binds es) other = (refl, bound_waits n (find_or_bind n.source n.port n.time es).0)
+touch_waits s _ _ n (Some most) (finds_or_binds es) other =
+    (refl, bind_waits n (bind_within most n.source n.port n.time es).0)
+touch_waits s _ _ n None (unbinds_lost bs) other = (refl, refl)
+touch_waits s _ _ n (Some most) (unbinds_lost bs) other = (refl, refl)
+touch_waits s _ _ n None (gives_lost pool) other = (refl, mapped_waits n n.class)
+touch_waits s _ _ n (Some most) (gives_lost pool) other = (refl, lost_waits n (n.port == 0))
+touch_waits s _ _ n limit (counts d) other = absurd (other refl)
 
 look_waits : (place : Place) (x : NatValue) (n : Noted) → LookKind place x
     → (waits_at place ≡ 1) × (waits_at (looked place x n).place ≡ 1)
@@ -130,19 +163,19 @@ told_waits place a n (inl q) =
 told_waits place a n (inr q) =
     subst (λ (z : Place). (waits_at z ≡ 1) × (waits_at (told z a n).place ≡ 1)) (sym q) (refl, refl)
 
--- The counts are nine
+-- The counts are ten
 
-abbrev AreNine : NatValue → Type 0
-AreNine (Dropped d) = length d.counts ≡ 9
-AreNine (Free pool) = ⊥
-AreNine (Mapped es) = ⊥
-AreNine (Taken bs) = ⊥
+abbrev AreTen : NatValue → Type 0
+AreTen (Dropped d) = length d.counts ≡ 10
+AreTen (Free pool) = ⊥
+AreTen (Mapped es) = ⊥
+AreTen (Taken bs) = ⊥
 
 -- Sums of one move
 
 module _ (s : Settings) (is : AreSettings s) (packets : List Packet) (value : ℕ → NatValue) (t : ℕ)
     (earlier : List (Step NatValue)) (taken taken_then : ℕ)
-    (fits : (v : ℕ) → v < 2 + 2 * s.shards → Fits s v (value v)) (m : Met) (nine : AreNine (value 0)) where
+    (fits : (v : ℕ) → v < 2 + 2 * s.shards → Fits s v (value v)) (m : Met) (ten : AreTen (value 0)) where
   abbrev sent_then : Effect NatValue → ℕ
   sent_then d = length (sent_more (act_of t earlier taken_then d) (sent_of earlier))
 
@@ -151,7 +184,7 @@ module _ (s : Settings) (is : AreSettings s) (packets : List Packet) (value : �
 
   abbrev Adds : Option Hand → Option Hand → Effect NatValue → Type 0
   Adds before after d =
-      Known s m before → AreNine (counts_then d)
+      Known s m before → AreTen (counts_then d)
       × ((sent_then d + drops_in (counts_then d) + waits after) % 2 ^ 64
       ≡ (length (sent_of earlier) + drops_in (value 0) + waits before + taken_by (act_of t earlier taken_then d))
       % 2 ^ 64)
@@ -163,30 +196,34 @@ module _ (s : Settings) (is : AreSettings s) (packets : List Packet) (value : �
 
   abbrev Sums : ℕ → NatValue → NatValue → ℕ → Type 0
   Sums after left x before =
-      AreNine left
+      AreTen left
       × ((length (sent_of earlier) + drops_in left + after) % 2 ^ 64
       ≡ (length (sent_of earlier) + drops_in x + before + 0) % 2 ^ 64)
 
-  at_count : (h : Hand) (place : Place) (x : NatValue) → TouchKind place x → var_of s place (noted h.place) ≡ 0
-      → AreNine x → KnownAt s m h.packet place (noted h.place)
-      → (let r = touched place x (noted h.place) in
-      Sums (waits (goes_on h r.1)) (followed s (noted h.place) r.0) x (waits_at place))
-  at_count h _ _ (finds es) e long k = absurd long
-  at_count h _ _ (unbinds_freed bs) e long k = absurd long
-  at_count h _ _ (gives_freed pool) e long k = absurd long
-  at_count h _ _ (reserves pool) e long k = absurd long
-  at_count h _ _ (binds bs) e long k = absurd long
-  at_count h _ _ (finds_or_binds es) e long k = absurd long
-  at_count h _ _ (unbinds_lost bs) e long k = absurd long
-  at_count h _ _ (gives_lost pool) e long k = absurd long
-  at_count h _ _ (counts d) e long k =
-      let reason : ℕ = (noted h.place).word in
-      let sum = one_more_sum reason d k.0 k.1 long in
-      subst (λ (e : Drops). Sums 0 (Dropped e) (Dropped d) 1) (sym (drop_is reason d k.0 k.1))
+  counted_sum : (reason : ℕ) (d : Drops) → AreTen (Dropped d) → 1 ≤ reason
+      → reason ≤ 10 → Sums 0 (Dropped (with_drop reason d)) (Dropped d) 1
+  counted_sum reason d long low high =
+      let sum = one_more_sum reason d low high long in
+      subst (λ (e : Drops). Sums 0 (Dropped e) (Dropped d) 1) (sym (drop_is reason d low high))
       (one_more_long reason d ∙ long, omega arith)
 
+  at_count : (h : Hand) (place : Place) (x : NatValue) (limit : Option ℕ) → TouchKind place x
+      → var_of s place (noted h.place) ≡ 0 → AreTen x → KnownAt s m h.packet place (noted h.place)
+      → (let r = touched_by limit place x (noted h.place) in
+      Sums (waits (goes_on h r.1)) (followed s (noted h.place) r.0) x (waits_at place))
+  at_count h _ _ limit (finds es) e long k = absurd long
+  at_count h _ _ limit (unbinds_freed bs) e long k = absurd long
+  at_count h _ _ limit (gives_freed pool) e long k = absurd long
+  at_count h _ _ limit (reserves pool) e long k = absurd long
+  at_count h _ _ limit (binds bs) e long k = absurd long
+  at_count h _ _ limit (finds_or_binds es) e long k = absurd long
+  at_count h _ _ limit (unbinds_lost bs) e long k = absurd long
+  at_count h _ _ limit (gives_lost pool) e long k = absurd long
+  at_count h _ _ None (counts d) e long k = counted_sum (noted h.place).word d long k.0 k.1
+  at_count h _ _ (Some most) (counts d) e long k = counted_sum (noted h.place).word d long k.0 k.1
+
   at_touch : (h : Hand) (w : ℕ) → comes_to s h (Access w) → Known s m (Some h)
-      → (let r = touched (at h) (value w) (noted h.place) in
+      → (let r = touched_by s.limit (at h) (value w) (noted h.place) in
       Sums (waits (goes_on h r.1)) (cond (nat_eq w 0) (followed s (noted h.place) r.0) (value 0)) (value 0)
       (waits_at (at h)))
   at_touch h w move k = by (is_or w 0)
@@ -195,10 +232,10 @@ module _ (s : Settings) (is : AreSettings s) (packets : List Packet) (value : �
       n = noted h.place
 
       after : ℕ
-      after = waits (goes_on h (touched (at h) (value w) n).1)
+      after = waits (goes_on h (touched_by s.limit (at h) (value w) n).1)
 
       left : NatValue
-      left = followed s n (touched (at h) (value w) n).0
+      left = followed s n (touched_by s.limit (at h) (value w) n).0
 
       it : var_of s (at h) n ≡ w
       it = touches_it s (at h) n w move
@@ -208,15 +245,16 @@ module _ (s : Settings) (is : AreSettings s) (packets : List Packet) (value : �
 
       by : (w ≡ 0) ⊎ (w ≢ 0) → Sums after (cond (nat_eq w 0) left (value 0)) (value 0) (waits_at (at h))
       by (inl q) =
-          let long : AreNine (value w) = subst (λ (u : ℕ). AreNine (value u)) (sym q) nine in
-          let sums : Sums after left (value w) (waits_at (at h)) = at_count h (at h) (value w) kind (it ∙ q) long k in
+          let long : AreTen (value w) = subst (λ (u : ℕ). AreTen (value u)) (sym q) ten in
+          let sums : Sums after left (value w) (waits_at (at h)) =
+          at_count h (at h) (value w) s.limit kind (it ∙ q) long k in
           subst (λ (b : Bool). Sums after (cond b left (value 0)) (value 0) (waits_at (at h))) (sym (is_eq w 0 q))
           (subst (λ (u : ℕ). Sums after left (value u) (waits_at (at h))) q sums)
       by (inr q) =
-          let both = touch_waits s (at h) (value w) n kind (λ e. q (sym it ∙ e)) in
-          let later : after ≡ 1 = waits_on h (touched (at h) (value w) n).1 ∙ both.1 in
+          let both = touch_waits s (at h) (value w) n s.limit kind (λ e. q (sym it ∙ e)) in
+          let later : after ≡ 1 = waits_on h (touched_by s.limit (at h) (value w) n).1 ∙ both.1 in
           subst (λ (b : Bool). Sums after (cond b left (value 0)) (value 0) (waits_at (at h))) (sym (not_eq w 0 q))
-          (nine, same_sum (waits_at (at h)) after (both.0 ∙ sym later))
+          (ten, same_sum (waits_at (at h)) after (both.0 ∙ sym later))
 
   pub move_adds : (after : Thread) (d : Effect NatValue) (hand : Option Hand) (a : Option ℕ)
       → held_move (nat_meaning s) packets value taken a hand ≡ Moves after d → Adds hand after.hand d
@@ -224,27 +262,27 @@ module _ (s : Settings) (is : AreSettings s) (packets : List Packet) (value : �
       by_move s packets value taken Adds
       (λ p input k.
       let one = ap waits_at (place_again (begun s (seen_by s p)).place) ∙ begun_waits s (seen_by s p) in
-      (nine, omega (arith, one)))
+      (ten, omega (arith, one)))
       (λ h w c k. at_touch h w c k)
       (λ h w c k.
       let kind = look_kind s is.some (noted h.place) w (value w) (fits w (read_below s is h w c)) (at h) c in
       let both = look_waits (at h) (value w) (noted h.place) kind in
       let later = waits_on h (looked (at h) (value w) (noted h.place)) ∙ both.1 in
-      (nine, same_sum _ _ (both.0 ∙ sym later)))
+      (ten, same_sum _ _ (both.0 ∙ sym later)))
       (λ h x c k.
       let both = told_waits (at h) x (noted h.place) (inl (at_clock s (at h) (noted h.place) c)) in
       let later = waits_on h (told (at h) x (noted h.place)) ∙ both.1 in
-      (nine, same_sum _ _ (both.0 ∙ sym later)))
+      (ten, same_sum _ _ (both.0 ∙ sym later)))
       (λ h x c k.
       let both = told_waits (at h) x (noted h.place) (inr (at_draw s (at h) (noted h.place) c)) in
       let later = waits_on h (told (at h) x (noted h.place)) ∙ both.1 in
-      (nine, same_sum _ _ (both.0 ∙ sym later)))
+      (ten, same_sum _ _ (both.0 ∙ sym later)))
       (λ h c k.
       let one : waits_at (at h) ≡ 1 = ap waits_at (at_emit s (at h) (noted h.place) c) in
-      (nine, omega (arith, one)))
+      (ten, omega (arith, one)))
       (λ h c k.
       let none : waits_at (at h) ≡ 0 = ap waits_at (at_end s (at h) (noted h.place) c) in
-      (nine, omega (arith, none)))
+      (ten, omega (arith, none)))
       after d hand a move
 
 -- The whole
@@ -269,7 +307,7 @@ add_up sent sent_then drops drops_then before after sum sum_then taken one a low
 
 run_counts : (s : Settings) (threads : ℕ) (inputs : ℕ → List Packet) (steps : List (Step NatValue)) → AreSettings s
     → IsHistory (nat_meaning s) inputs threads steps
-    → AreNine (value_after (nat_meaning s) steps 0)
+    → AreTen (value_after (nat_meaning s) steps 0)
     × ((length (sent_of steps) + drops_in (value_after (nat_meaning s) steps 0)
     + waiting threads (thread_after steps)) % 2 ^ 64 ≡ taken_in steps % 2 ^ 64)
 run_counts s threads inputs [] is h =
@@ -309,14 +347,14 @@ module _ (s : Settings) (is : AreSettings s) (packets : List Packet) (value : �
   once w = if w == 0 then 1 else 0
 
   touch_passes : (h : Hand) (w : ℕ) → comes_to s h (Access w)
-      → once w + waits (goes_on h (touched (at h) (value w) (noted h.place)).1) ≡ waits_at (at h)
+      → once w + waits (goes_on h (touched_by s.limit (at h) (value w) (noted h.place)).1) ≡ waits_at (at h)
   touch_passes h w move = by (is_or w 0)
     where
       n : Noted
       n = noted h.place
 
       g : Goes
-      g = (touched (at h) (value w) n).1
+      g = (touched_by s.limit (at h) (value w) n).1
 
       it : var_of s (at h) n ≡ w
       it = touches_it s (at h) n w move
@@ -324,26 +362,27 @@ module _ (s : Settings) (is : AreSettings s) (packets : List Packet) (value : �
       kind : TouchKind (at h) (value w)
       kind = touch_kind s is.some n w (value w) (fits w (touched_below s is h w move)) (at h) move
 
-      counted : (place : Place) (x : NatValue) → TouchKind place x → var_of s place n ≡ 0
-          → (waits_at place ≡ 1) × (waits_at (touched place x n).1.place ≡ 0)
-      counted _ _ (finds es) e = absurd (omega arith)
-      counted _ _ (unbinds_freed bs) e = absurd (omega arith)
-      counted _ _ (gives_freed pool) e = absurd (omega arith)
-      counted _ _ (reserves pool) e = absurd (omega arith)
-      counted _ _ (binds bs) e = absurd (omega arith)
-      counted _ _ (finds_or_binds es) e = absurd (omega arith)
-      counted _ _ (unbinds_lost bs) e = absurd (omega arith)
-      counted _ _ (gives_lost pool) e = absurd (omega arith)
-      counted _ _ (counts d) e = (refl, refl)
+      counted : (place : Place) (x : NatValue) (limit : Option ℕ) → TouchKind place x → var_of s place n ≡ 0
+          → (waits_at place ≡ 1) × (waits_at (touched_by limit place x n).1.place ≡ 0)
+      counted _ _ limit (finds es) e = absurd (omega arith)
+      counted _ _ limit (unbinds_freed bs) e = absurd (omega arith)
+      counted _ _ limit (gives_freed pool) e = absurd (omega arith)
+      counted _ _ limit (reserves pool) e = absurd (omega arith)
+      counted _ _ limit (binds bs) e = absurd (omega arith)
+      counted _ _ limit (finds_or_binds es) e = absurd (omega arith)
+      counted _ _ limit (unbinds_lost bs) e = absurd (omega arith)
+      counted _ _ limit (gives_lost pool) e = absurd (omega arith)
+      counted _ _ None (counts d) e = (refl, refl)
+      counted _ _ (Some most) (counts d) e = (refl, refl)
 
       by : (w ≡ 0) ⊎ (w ≢ 0) → once w + waits (goes_on h g) ≡ waits_at (at h)
       by (inl q) =
-          let both = counted (at h) (value w) kind (it ∙ q) in
+          let both = counted (at h) (value w) s.limit kind (it ∙ q) in
           let after : waits (goes_on h g) ≡ 0 = waits_on h g ∙ both.1 in
           let one : once w ≡ 1 = ap (λ (b : Bool). if b then 1 else 0) (is_eq w 0 q) in
           omega (arith, both.0, after, one)
       by (inr q) =
-          let both = touch_waits s (at h) (value w) n kind (λ e. q (sym it ∙ e)) in
+          let both = touch_waits s (at h) (value w) n s.limit kind (λ e. q (sym it ∙ e)) in
           let after : waits (goes_on h g) ≡ 1 = waits_on h g ∙ both.1 in
           let none : once w ≡ 0 = ap (λ (b : Bool). if b then 1 else 0) (not_eq w 0 q) in
           omega (arith, both.0, after, none)

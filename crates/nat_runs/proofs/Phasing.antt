@@ -2,15 +2,13 @@
 use Rattle.std.proofs.Common.{◌≡◌, ◌≢◌, ℕ, ◌+◌, ◌-◌, ◌*◌, ◌<◌, Bool, true, false, List, [], ◌∷◌, ◌++◌, refl, sym, ap}
 use Rattle.std.proofs.Common.{◌∙◌}
 use Rattle.std.proofs.Common.{subst, ◌⊎◌, inl, inr, Option, Some, None}
-use Rattle.std.specs.Prelude.{cond, nat_eq, ◌==◌, if◌then◌else◌, Ok}
+use Rattle.std.specs.Prelude.{cond, nat_eq, ◌==◌, if◌then◌else◌}
 use Rattle.plain_text.specs.declared.packet.Packet.{Packet}
 use Rattle.entry_order.proofs.Order.{is_or}
-use Rattle.packet_headers.specs.declared.flow.Flow.{Flow}
 use Rattle.packet_headers.specs.Fields.{AreBytes}
-use Rattle.packet_headers.specs.View.{viewed}
 use Rattle.plain_machine.specs.declared.local.Move.TheVariants.{Access}
 use Rattle.plain_machine.specs.Machine.{Hand, Thread, Effect, Moves, held_move}
-use Rattle.plain_machine.specs.History.{Act, Step, act_of, left_by, thread_after, value_after, IsHistory}
+use Rattle.plain_machine.specs.History.{Act, Step, act_of, left_by, thread_after, value_after}
 use Rattle.plain_machine.proofs.Histories.{not_eq, is_eq}
 use Rattle.plain_machine.proofs.Bounds.{values_fit}
 use Rattle.nat_tables.specs.declared.entries.Endpoint.{Endpoint}
@@ -20,28 +18,31 @@ use Rattle.nat_tables.specs.declared.phase.Phase.TheVariants.{Plain}
 use Rattle.nat_tables.specs.declared.phase.Segment.{Segment}
 use Rattle.nat_tables.specs.Keys.{same_endpoint}
 use Rattle.nat_tables.specs.Phases.{phase_after}
-use Rattle.nat_tables.specs.Forwards.{Forwards, slot_of, is_idle, first_idle, refreshed, refresh, marked, mark, without}
+use Rattle.nat_tables.specs.Forwards.{Forwards, slot_of, is_idle, first_idle, refreshed, refresh, marked, mark}
 use Rattle.nat_tables.specs.Forwards.{found_there, found, bound, Misses, AreMappings}
+use Rattle.nat_tables.specs.declared.entries.Find.{Find}
+use Rattle.nat_tables.specs.declared.entries.Bind.{Bind}
+use Rattle.nat_tables.specs.Hosts.{find_within, bind_within}
 use Rattle.nat_tables.proofs.Counting.{same_is}
-use Rattle.flow_boxes.specs.Flows.{source_of}
 use Rattle.flow_boxes.proofs.Fitting.{same_self}
 use Rattle.flow_boxes.proofs.HeldInputs.{IsHeld, run_holds}
 use Rattle.nat_box.specs.declared.place.Place.{Place}
 use Rattle.nat_box.specs.declared.place.Noted.{Noted}
 use Rattle.nat_box.specs.declared.value.NatValue.{NatValue}
-use Rattle.nat_box.specs.declared.value.NatValue.TheVariants.{Dropped, Free, Mapped, Taken}
+use Rattle.nat_box.specs.declared.value.NatValue.TheVariants.{Mapped}
 use Rattle.nat_box.specs.Places.{noted}
-use Rattle.nat_box.specs.Nat.{Settings, segment_of, segment_told, touched, followed_by, followed, nat_meaning, MayMap}
+use Rattle.nat_box.specs.Nat.{Settings, segment_told, touched_by, followed_by, followed, nat_meaning, MayMap}
 use Rattle.nat_box.specs.Nat.{Fits}
 use Rattle.nat_box.specs.Lawful.{AreSettings, nat_lawful}
 use Rattle.nat_box.specs.Sentences.{Has, mappings_in}
 use Rattle.nat_box.proofs.Making.{comes_to}
 use Rattle.nat_runs.specs.Met.{Met, met_of}
 use Rattle.nat_runs.specs.Following.{phase_then, HadPhase, IsFollowedOn, HostsFollow}
+use Rattle.nat_runs.proofs.Within.{by_find, by_bind}
 use Rattle.nat_runs.proofs.TableEntries.{missed, without_was, without_idle_was}
 use Rattle.nat_runs.proofs.ThreadMoves.{TouchKind, finds, unbinds_freed, gives_freed, reserves, binds, finds_or_binds}
 use Rattle.nat_runs.proofs.ThreadMoves.{unbinds_lost, gives_lost, counts, touch_kind, at, touched_below, by_move}
-use Rattle.nat_runs.proofs.Knowing.{outward_flow, IsBase, IsOnWay, KnownAt, Known, run_known}
+use Rattle.nat_runs.proofs.Knowing.{outward_flow, IsOnWay, KnownAt, Known, run_known}
 
 -- Before the segment is noted: an entry was there, or it is of the packet's endpoint and has the phase of its mapping.
 
@@ -222,25 +223,46 @@ module _ (s : Settings) (m : Met) (p : Packet) (e : Endpoint × Slot) where
             ∙ ap (λ (key : Endpoint). phase_then s.closing key.protocol k.0.flow.flags old) q,
       ))
 
-  touch_now : (v : ℕ) (place : Place) (x : NatValue) (n : Noted) → TouchKind place x
-      → Fits s v (followed s n (touched place x n).0) → KnownAt s m p place n
-      → Has (mappings_in (followed s n (touched place x n).0)) e → Now x
-  touch_now v _ _ n (finds es) fits k h =
+  touch_now : (v : ℕ) (place : Place) (x : NatValue) (n : Noted) (limit : Option ℕ) → TouchKind place x
+      → Fits s v (followed s n (touched_by limit place x n).0) → KnownAt s m p place n
+      → Has (mappings_in (followed s n (touched_by limit place x n).0)) e → Now x
+  touch_now v _ _ n None (finds es) fits k h =
       let a : Option Slot = slot_of n.source es in
       let b : Option (Endpoint × Slot) = first_idle n.time es in
       now_of n es k (followed_now (MayMap s v) s.closing n es (found n.source n.time es a b).1 e fits.2
       (λ x there. found_old n.source n.time es a b x there) h)
-  touch_now v _ _ n (unbinds_freed bs) fits k h = absurd h
-  touch_now v _ _ n (gives_freed pool) fits k h = absurd h
-  touch_now v _ _ n (reserves pool) fits k h = absurd h
-  touch_now v _ _ n (binds bs) fits k h = absurd h
-  touch_now v _ _ n (finds_or_binds es) fits k h =
+  touch_now v _ _ n (Some most) (finds es) fits k h =
+      let a : Option Slot = slot_of n.source es in
+      let b : Option (Endpoint × Slot) = first_idle n.time es in
+      now_of n es k (followed_now (MayMap s v) s.closing n es (find_within most n.source n.time es).1 e fits.2
+      (by_find most n.source n.time es
+      (λ (r : Find × Forwards). (x : Endpoint × Slot) → Has r.1 x → IsOld n.source es x)
+      (λ x there. found_old n.source n.time es a b x there)
+      (λ gone none q x there. inl (without_was gone.0 es x there))) h)
+  touch_now v _ _ n None (unbinds_freed bs) fits k h = absurd h
+  touch_now v _ _ n (Some most) (unbinds_freed bs) fits k h = absurd h
+  touch_now v _ _ n None (gives_freed pool) fits k h = absurd h
+  touch_now v _ _ n (Some most) (gives_freed pool) fits k h = absurd h
+  touch_now v _ _ n None (reserves pool) fits k h = absurd h
+  touch_now v _ _ n (Some most) (reserves pool) fits k h = absurd h
+  touch_now v _ _ n None (binds bs) fits k h = absurd h
+  touch_now v _ _ n (Some most) (binds bs) fits k h = absurd h
+  touch_now v _ _ n None (finds_or_binds es) fits k h =
       let a : Option Slot = slot_of n.source es in
       now_of n es k (followed_now (MayMap s v) s.closing n es (bound n.source n.port n.time es a).1 e fits.2
       (λ x there. bound_old n.source n.port n.time es a x there) h)
-  touch_now v _ _ n (unbinds_lost bs) fits k h = absurd h
-  touch_now v _ _ n (gives_lost pool) fits k h = absurd h
-  touch_now v _ _ n (counts d) fits k h = absurd h
+  touch_now v _ _ n (Some most) (finds_or_binds es) fits k h =
+      let a : Option Slot = slot_of n.source es in
+      now_of n es k (followed_now (MayMap s v) s.closing n es (bind_within most n.source n.port n.time es).1 e fits.2
+      (by_bind most n.source n.time es n.port
+      (λ (r : Option Bind × Forwards). (x : Endpoint × Slot) → Has r.1 x → IsOld n.source es x)
+      (λ x there. bound_old n.source n.port n.time es a x there) (λ none full x there. inl there)) h)
+  touch_now v _ _ n None (unbinds_lost bs) fits k h = absurd h
+  touch_now v _ _ n (Some most) (unbinds_lost bs) fits k h = absurd h
+  touch_now v _ _ n None (gives_lost pool) fits k h = absurd h
+  touch_now v _ _ n (Some most) (gives_lost pool) fits k h = absurd h
+  touch_now v _ _ n None (counts d) fits k h = absurd h
+  touch_now v _ _ n (Some most) (counts d) fits k h = absurd h
 
 -- Of a step
 
@@ -258,13 +280,13 @@ module _ (s : Settings) (is : AreSettings s) (packets : List Packet) (value : �
       Known s m before → Has (mappings_in (left_by v (act_of t earlier taken_then d) (value v))) e → Follows before
 
   at_touch : (h : Hand) (w : ℕ) → comes_to s h (Access w) → Known s m (Some h)
-      → Has (mappings_in
-      (cond (nat_eq w v) (followed s (noted h.place) (touched (at h) (value w) (noted h.place)).0) (value v))) e
+      → Has (mappings_in (cond (nat_eq w v)
+      (followed s (noted h.place) (touched_by s.limit (at h) (value w) (noted h.place)).0) (value v))) e
       → Follows (Some h)
   at_touch h w move k there = by (is_or w v)
     where
       left : NatValue
-      left = followed s (noted h.place) (touched (at h) (value w) (noted h.place)).0
+      left = followed s (noted h.place) (touched_by s.limit (at h) (value w) (noted h.place)).0
 
       as_hand : Now s m h.packet e (value w) → w ≡ v → Follows (Some h)
       as_hand (inl a) q = inl (subst (λ (u : ℕ). Has (mappings_in (value u)) e) q a)
@@ -281,7 +303,7 @@ module _ (s : Settings) (is : AreSettings s) (packets : List Packet) (value : �
           let now : Has (mappings_in left) e =
           subst (λ (b : Bool). Has (mappings_in (cond b left (value v))) e) (is_eq w v q) there in
           let fit : Fits s w left = (nat_lawful s is).touch_fits w (value w) h.place move (fits w below) in
-          as_hand (touch_now s m h.packet e w (at h) (value w) (noted h.place) kind fit k now) q
+          as_hand (touch_now s m h.packet e w (at h) (value w) (noted h.place) s.limit kind fit k now) q
       by (inr q) = inl (subst (λ (b : Bool). Has (mappings_in (cond b left (value v))) e) (not_eq w v q) there)
 
   move_follows : (after : Thread) (d : Effect NatValue) (hand : Option Hand) (a : Option ℕ)

@@ -1,10 +1,9 @@
 -- Packets from inside refresh the mapping of their own endpoint.
 use Rattle.std.proofs.Common.{◌≡◌, ◌≢◌, ℕ, ◌+◌, ◌*◌, ◌-◌, ◌<◌, Bool, true, false, List, refl, sym, ap, ◌∙◌}
 use Rattle.std.proofs.Common.{subst, ◌⊎◌, inl, inr, Option, Some, None}
-use Rattle.std.specs.Prelude.{cond, nat_eq, Ok}
+use Rattle.std.specs.Prelude.{cond, nat_eq}
 use Rattle.plain_text.specs.declared.packet.Packet.{Packet}
 use Rattle.entry_order.proofs.Order.{is_or}
-use Rattle.packet_headers.specs.declared.flow.Flow.{Flow}
 use Rattle.packet_headers.specs.Fields.{AreBytes}
 use Rattle.plain_machine.specs.declared.emission.Emission.{Emission}
 use Rattle.plain_machine.specs.declared.local.Move.TheVariants.{Access}
@@ -15,6 +14,9 @@ use Rattle.plain_machine.proofs.Bounds.{values_fit}
 use Rattle.nat_tables.specs.declared.entries.Endpoint.{Endpoint}
 use Rattle.nat_tables.specs.declared.slot.Slot.{Slot}
 use Rattle.nat_tables.specs.Forwards.{Forwards, is_idle, slot_of, first_idle, found_there, found, bound}
+use Rattle.nat_tables.specs.declared.entries.Find.{Find}
+use Rattle.nat_tables.specs.declared.entries.Bind.{Bind}
+use Rattle.nat_tables.specs.Hosts.{find_within, bind_within}
 use Rattle.nat_box.specs.declared.place.Place.{Place}
 use Rattle.nat_box.specs.declared.place.Place.TheVariants.{SendsOut}
 use Rattle.nat_box.specs.declared.place.Class.{Class}
@@ -23,7 +25,7 @@ use Rattle.nat_box.specs.declared.place.Noted.{Noted}
 use Rattle.nat_box.specs.declared.value.NatValue.{NatValue}
 use Rattle.nat_box.specs.declared.value.NatValue.TheVariants.{Mapped}
 use Rattle.nat_box.specs.Places.{noted}
-use Rattle.nat_box.specs.Nat.{Settings, class_of_flow, flow_seen, touched, followed, nat_meaning, Fits}
+use Rattle.nat_box.specs.Nat.{Settings, class_of_flow, flow_seen, touched_by, followed, nat_meaning, Fits}
 use Rattle.nat_box.specs.Lawful.{AreSettings, nat_lawful}
 use Rattle.nat_box.specs.Sentences.{Has, mappings_in}
 use Rattle.flow_boxes.specs.Flows.{source_of}
@@ -32,6 +34,7 @@ use Rattle.nat_box.proofs.Making.{comes_to}
 use Rattle.nat_runs.specs.Met.{Met, met_of}
 use Rattle.nat_runs.specs.Refreshing.{ComesFrom, HostsRefresh, HasRefreshed, SentRefresh}
 use Rattle.nat_runs.proofs.MarkedEntries.{followed_was, was_before}
+use Rattle.nat_runs.proofs.Within.{by_find, by_bind}
 use Rattle.nat_runs.proofs.TableEntries.{slot_in, WasOr, refresh_was, bound_was, without_was, without_idle_was}
 use Rattle.nat_runs.proofs.ThreadMoves.{TouchKind, finds, unbinds_freed, gives_freed, reserves, binds, finds_or_binds}
 use Rattle.nat_runs.proofs.ThreadMoves.{unbinds_lost, gives_lost, counts, touch_kind, at_emit, at, touched_below}
@@ -73,22 +76,40 @@ module _ (s : Settings) (m : Met) (p : Packet) (e : Endpoint × Slot) where
         from_inside s p n k.0 k.2,
       ))
 
-  touch_was : (place : Place) (x : NatValue) (n : Noted) → TouchKind place x → KnownAt s m p place n
-      → Has (mappings_in (followed s n (touched place x n).0)) e → Was x
-  touch_was _ _ n (finds es) k h =
+  touch_was : (place : Place) (x : NatValue) (n : Noted) (limit : Option ℕ) → TouchKind place x → KnownAt s m p place n
+      → Has (mappings_in (followed s n (touched_by limit place x n).0)) e → Was x
+  touch_was _ _ n None (finds es) k h =
       was_of n es k (was_before n.source e (found n.source n.time es (slot_of n.source es) (first_idle n.time es)).1 es
       (followed_was s.closing n _ e h)
       (found_was n.source n.time es (slot_of n.source es) (first_idle n.time es) e))
-  touch_was _ _ n (unbinds_freed bs) k h = absurd h
-  touch_was _ _ n (gives_freed pool) k h = absurd h
-  touch_was _ _ n (reserves pool) k h = absurd h
-  touch_was _ _ n (binds bs) k h = absurd h
-  touch_was _ _ n (finds_or_binds es) k h =
+  touch_was _ _ n (Some most) (finds es) k h =
+      was_of n es k (was_before n.source e (find_within most n.source n.time es).1 es
+      (followed_was s.closing n _ e h)
+      (by_find most n.source n.time es (λ (r : Find × Forwards). Has r.1 e → WasOr n.source e es)
+      (found_was n.source n.time es (slot_of n.source es) (first_idle n.time es) e)
+      (λ gone none q h. inl (without_was gone.0 es e h))))
+  touch_was _ _ n None (unbinds_freed bs) k h = absurd h
+  touch_was _ _ n (Some most) (unbinds_freed bs) k h = absurd h
+  touch_was _ _ n None (gives_freed pool) k h = absurd h
+  touch_was _ _ n (Some most) (gives_freed pool) k h = absurd h
+  touch_was _ _ n None (reserves pool) k h = absurd h
+  touch_was _ _ n (Some most) (reserves pool) k h = absurd h
+  touch_was _ _ n None (binds bs) k h = absurd h
+  touch_was _ _ n (Some most) (binds bs) k h = absurd h
+  touch_was _ _ n None (finds_or_binds es) k h =
       was_of n es k (was_before n.source e (bound n.source n.port n.time es (slot_of n.source es)).1 es
       (followed_was s.closing n _ e h) (bind_was n.source n.port n.time es (slot_of n.source es) e))
-  touch_was _ _ n (unbinds_lost bs) k h = absurd h
-  touch_was _ _ n (gives_lost pool) k h = absurd h
-  touch_was _ _ n (counts d) k h = absurd h
+  touch_was _ _ n (Some most) (finds_or_binds es) k h =
+      was_of n es k (was_before n.source e (bind_within most n.source n.port n.time es).1 es
+      (followed_was s.closing n _ e h)
+      (by_bind most n.source n.time es n.port (λ (r : Option Bind × Forwards). Has r.1 e → WasOr n.source e es)
+      (bind_was n.source n.port n.time es (slot_of n.source es) e) (λ none full h. inl h)))
+  touch_was _ _ n None (unbinds_lost bs) k h = absurd h
+  touch_was _ _ n (Some most) (unbinds_lost bs) k h = absurd h
+  touch_was _ _ n None (gives_lost pool) k h = absurd h
+  touch_was _ _ n (Some most) (gives_lost pool) k h = absurd h
+  touch_was _ _ n None (counts d) k h = absurd h
+  touch_was _ _ n (Some most) (counts d) k h = absurd h
 
 -- what a packet from inside has refreshed when it is sent out
 sent_refreshed : (s : Settings) (m : Met) (p : Packet) (n : Noted) (key : Endpoint) → AreBytes p.bytes
@@ -137,14 +158,14 @@ module _ (s : Settings) (is : AreSettings s) (packets : List Packet) (value : �
         ⊎ ((h : Hand) × (before ≡ Some h) × (AreBytes h.packet.bytes → ComesFrom s e.0 h.packet))
 
     at_touch : (h : Hand) (w : ℕ) → comes_to s h (Access w) → Known s m (Some h)
-        → Has (mappings_in
-        (cond (nat_eq w v) (followed s (noted h.place) (touched (at h) (value w) (noted h.place)).0) (value v))) e
+        → Has (mappings_in (cond (nat_eq w v)
+        (followed s (noted h.place) (touched_by s.limit (at h) (value w) (noted h.place)).0) (value v))) e
         → Has (mappings_in (value v)) e
         ⊎ ((g : Hand) × (Some h ≡ Some g) × (AreBytes g.packet.bytes → ComesFrom s e.0 g.packet))
     at_touch h w move k there = by (is_or w v)
       where
         left : NatValue
-        left = followed s (noted h.place) (touched (at h) (value w) (noted h.place)).0
+        left = followed s (noted h.place) (touched_by s.limit (at h) (value w) (noted h.place)).0
 
         as_hand : Was s m h.packet e (value w) → w ≡ v
             → Has (mappings_in (value v)) e
@@ -160,7 +181,7 @@ module _ (s : Settings) (is : AreSettings s) (packets : List Packet) (value : �
             let kind = touch_kind s is.some (noted h.place) w (value w) (fits w below) (at h) move in
             let now : Has (mappings_in left) e =
             subst (λ (b : Bool). Has (mappings_in (cond b left (value v))) e) (is_eq w v q) there in
-            as_hand (touch_was s m h.packet e (at h) (value w) (noted h.place) kind k now) q
+            as_hand (touch_was s m h.packet e (at h) (value w) (noted h.place) s.limit kind k now) q
         by (inr q) = inl (subst (λ (b : Bool). Has (mappings_in (cond b left (value v))) e) (not_eq w v q) there)
 
     move_keeps : (after : Thread) (d : Effect NatValue) (hand : Option Hand) (a : Option ℕ)

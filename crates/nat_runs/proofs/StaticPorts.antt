@@ -1,8 +1,8 @@
 -- The static ports in all runs.
 use Rattle.std.proofs.Common.{◌≡◌, ◌≢◌, ℕ, ◌+◌, ◌*◌, ◌<◌, ◌≤◌, Bool, true, false, List, [], ◌∷◌, refl, sym, ap, ◌∙◌}
-use Rattle.std.proofs.Common.{subst, arith, ◌⊎◌, inl, inr, ⊎_elim, Option, Some, None}
+use Rattle.std.proofs.Common.{subst, arith, inl, inr, ⊎_elim, Option, Some, None}
 use Rattle.std.specs.Prelude.{cond, nat_eq, nat_lt, ◌==◌, Ok, Err, if◌then◌else◌}
-use Rattle.std.proofs.lemmas.Bool.{eqb-true, cases_lt}
+use Rattle.std.proofs.lemmas.Bool.{cases_lt}
 use Rattle.std.proofs.lemmas.Bool.Decides.{nat_tests}
 use Rattle.plain_text.specs.declared.packet.Packet.{Packet}
 use Rattle.packet_headers.specs.declared.flow.Flow.{Flow}
@@ -21,31 +21,29 @@ use Rattle.nat_tables.specs.declared.entries.PortKey.{PortKey}
 use Rattle.nat_tables.specs.declared.slot.Slot.{Slot}
 use Rattle.nat_tables.specs.declared.phase.Phase.TheVariants.{Kept}
 use Rattle.nat_tables.specs.Keys.{same_port, port_key}
-use Rattle.nat_tables.specs.Ports.{pool_without, full_pool}
-use Rattle.nat_tables.specs.Forwards.{Forwards, slot_of, port_of, HasKept}
+use Rattle.nat_tables.specs.Ports.{pool_without}
+use Rattle.nat_tables.specs.Forwards.{Forwards, port_of, HasKept}
 use Rattle.nat_tables.specs.Reverses.{Reverses, endpoint_of, IsUnbound as IsFree, AreBound}
 use Rattle.nat_tables.proofs.Pooling.{pool_with_all}
 use Rattle.flow_boxes.specs.Flows.{endpoint}
 use Rattle.flow_boxes.specs.Drops.{no_drops}
 use Rattle.nat_box.specs.declared.nat.StaticPort.{StaticPort}
-use Rattle.nat_box.specs.declared.place.Class.{Class}
 use Rattle.nat_box.specs.declared.place.Class.TheVariants.{Outbound, Hairpin, Inbound, OutboundError}
 use Rattle.nat_box.specs.declared.value.NatValue.{NatValue}
 use Rattle.nat_box.specs.declared.value.NatValue.TheVariants.{Dropped, Free, Mapped, Taken}
 use Rattle.nat_box.specs.Places.{noted}
 use Rattle.nat_box.specs.Statics.{inside_of, outside_of, static_port, kept, outside_ports, IsStatic}
 use Rattle.nat_box.specs.StaticLaws.{fresh_bound}
-use Rattle.nat_box.specs.Nat.{Settings, flow_seen, class_seen, forward_table, reverse_table, kept_mappings, kept_bound}
-use Rattle.nat_box.specs.Nat.{fresh_value, touched, followed, nat_meaning, MayMap, MayBind, Fits}
+use Rattle.nat_box.specs.Nat.{Settings, flow_seen, forward_table, reverse_table, kept_mappings, kept_bound}
+use Rattle.nat_box.specs.Nat.{fresh_value, touched_by, followed, nat_meaning, MayMap, MayBind, Fits}
 use Rattle.nat_box.specs.Lawful.{AreSettings, nat_lawful}
 use Rattle.nat_box.specs.Sentences.{Has, mappings_in, bound_in, IsMapping}
 use Rattle.nat_box.proofs.Making.{comes_to}
 use Rattle.nat_box.proofs.Sentences.{entries_stand}
 use Rattle.nat_box.proofs.StaticPlaces.{table_below, kept_there, same_port_is}
-use Rattle.nat_runs.specs.Classes.{IsFromInside}
 use Rattle.nat_runs.specs.Met.{Met, met_by_touch, met_by_read, met_by_what, met_by, met_of}
 use Rattle.nat_runs.specs.Causes.{IsUnbound, FoundNoneUsed, Cause}
-use Rattle.nat_runs.specs.StaticPorts.{Stands, StaticPortsStay, ComesInTo, NoneIsDropped, OnlyTheyAreKept}
+use Rattle.nat_runs.specs.StaticPorts.{StaticPortsStay, ComesInTo, NoneIsDropped, OnlyTheyAreKept}
 use Rattle.nat_runs.specs.StaticPorts.{MovesAreTheSame, empty_value, NoneStartsWithoutThem}
 use Rattle.nat_runs.proofs.TableEntries.{slot_in, endpoint_in, may_mapping, may_endpoint}
 use Rattle.nat_runs.proofs.ThreadMoves.{at, touched_below, by_move}
@@ -182,7 +180,8 @@ module _ (s : Settings) (is : AreSettings s) (v : ℕ) (past : 2 + 2 * s.shards 
       move
     where
       other : (h : Hand) (w : ℕ) → comes_to s h (Access w)
-          → cond (nat_eq w v) (followed s (noted h.place) (touched (at h) (value w) (noted h.place)).0) (value v)
+          → cond (nat_eq w v)
+          (followed s (noted h.place) (touched_by s.limit (at h) (value w) (noted h.place)).0) (value v)
           ≡ value v
       other h w c =
           let below = touched_below s is h w c in
@@ -345,17 +344,21 @@ module _ (s : Settings) (threads : ℕ) (inputs : ℕ → List Packet) (p : Stat
   no_cause reason (inl (answer, seen, why)) = let both : Ok to.0 ≡ Err answer = sym to.1 ∙ seen in absurd (cc)
   no_cause reason (inr (inl (flow, seen, class, why))) =
       let both : Some Inbound ≡ None = sym to.2 ∙ class in absurd (cc)
-  no_cause reason (inr (inr (inl (flow, seen, inl class, value, at, none, why)))) =
+  no_cause reason (inr (inr (inl (flow, seen, inl class, had, value, pool, none, why)))) =
       let both : Some Inbound ≡ Some Outbound = sym to.2 ∙ class_is_seen s packet flow seen ∙ class in absurd (cc)
-  no_cause reason (inr (inr (inl (flow, seen, inr class, value, at, none, why)))) =
+  no_cause reason (inr (inr (inl (flow, seen, inr class, had, value, pool, none, why)))) =
       let both : Some Inbound ≡ Some Hairpin = sym to.2 ∙ class_is_seen s packet flow seen ∙ class in absurd (cc)
   no_cause reason (inr (inr (inr (inl (flow, seen, goes, bound, read, inl unbound, why))))) =
       it_is_bound s threads inputs p is static bound (old.reverse bound read)
       (subst (IsUnbound s bound) (its_port flow seen) unbound)
   no_cause reason (inr (inr (inr (inl (flow, seen, goes, bound, read, inr none, why))))) =
       none_used flow bound seen read none
-  no_cause reason (inr (inr (inr (inr (flow, seen, class, why))))) =
+  no_cause reason (inr (inr (inr (inr (inl (flow, seen, class, value, now, read, clock, none, why)))))) =
       let both : Some Inbound ≡ Some OutboundError = sym to.2 ∙ class in absurd (cc)
+  no_cause reason (inr (inr (inr (inr (inr (flow, seen, inl class, most, limit, es, left, none, many, why)))))) =
+      let both : Some Inbound ≡ Some Outbound = sym to.2 ∙ class_is_seen s packet flow seen ∙ class in absurd (cc)
+  no_cause reason (inr (inr (inr (inr (inr (flow, seen, inr class, most, limit, es, left, none, many, why)))))) =
+      let both : Some Inbound ≡ Some Hairpin = sym to.2 ∙ class_is_seen s packet flow seen ∙ class in absurd (cc)
 
 pub none_is_dropped : NoneIsDropped
 none_is_dropped s threads inputs x earlier entry left place h p is bytes hist hand static to act what =

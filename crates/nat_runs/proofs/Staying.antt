@@ -11,13 +11,17 @@ use Rattle.plain_machine.proofs.Histories.{not_eq, is_eq}
 use Rattle.plain_machine.proofs.Bounds.{values_fit}
 use Rattle.nat_tables.specs.declared.entries.Endpoint.{Endpoint}
 use Rattle.nat_tables.specs.declared.slot.Slot.{Slot}
-use Rattle.nat_tables.specs.Forwards.{Forwards, is_idle, slot_of, first_idle, found_there, found, bound, AreMappings}
+use Rattle.nat_tables.specs.Forwards.{Forwards, is_idle, slot_of, first_idle, without, found_there, found}
+use Rattle.nat_tables.specs.Forwards.{bound, AreMappings}
+use Rattle.nat_tables.specs.declared.entries.Find.{Find}
+use Rattle.nat_tables.specs.declared.entries.Bind.{Bind}
+use Rattle.nat_tables.specs.Hosts.{first_idle_of, find_within, bind_within}
 use Rattle.nat_box.specs.declared.place.Place.{Place}
 use Rattle.nat_box.specs.declared.place.Noted.{Noted}
 use Rattle.nat_box.specs.declared.value.NatValue.{NatValue}
 use Rattle.nat_box.specs.declared.value.NatValue.TheVariants.{Mapped}
 use Rattle.nat_box.specs.Places.{noted}
-use Rattle.nat_box.specs.Nat.{Settings, touched, followed_by, followed, nat_meaning, MayMap, Fits}
+use Rattle.nat_box.specs.Nat.{Settings, touched_by, followed_by, followed, nat_meaning, MayMap, Fits}
 use Rattle.nat_box.specs.Lawful.{AreSettings, nat_lawful}
 use Rattle.nat_box.specs.Sentences.{Has, mappings_in}
 use Rattle.nat_box.proofs.Making.{comes_to}
@@ -25,7 +29,8 @@ use Rattle.nat_runs.specs.Met.{Met, met_of}
 use Rattle.nat_runs.specs.Idle.{IsIdle}
 use Rattle.nat_runs.specs.Staying.{Stays, IsGoneIdle, MappingsStay}
 use Rattle.nat_runs.proofs.MarkedEntries.{followed_has, followed_had}
-use Rattle.nat_runs.proofs.TableEntries.{idle_is, IsLater, IsLeftOr, refreshed_in, in_front, left_without}
+use Rattle.nat_runs.proofs.Within.{by_find, by_bind, idle_of_host}
+use Rattle.nat_runs.proofs.TableEntries.{slot_there, idle_is, IsLater, IsLeftOr, refreshed_in, in_front, left_without}
 use Rattle.nat_runs.proofs.TableEntries.{left_without_idle, own_slot}
 use Rattle.nat_runs.proofs.ThreadMoves.{TouchKind, finds, unbinds_freed, gives_freed, reserves, binds, finds_or_binds}
 use Rattle.nat_runs.proofs.ThreadMoves.{unbinds_lost, gives_lost, counts, touch_kind, at, touched_below, by_move}
@@ -66,6 +71,16 @@ module _ (m : Met) (e : Endpoint × Slot) where
         found_keeps None (Some x) q = stays_or _ _ (idle_is now e) (left_without_idle May now es e all h)
         found_keeps None None q = unchanged (Mapped es) h
 
+        -- a host gives up a mapping that is idle
+        gives_keeps : (gone : Endpoint × Slot) → first_idle_of key now es ≡ Some gone
+            → Kept (Mapped (without gone.0 es))
+        gives_keeps gone q =
+            let is = idle_of_host key now es gone q in
+            stays_or _ _
+            (λ same. subst (λ (z : Endpoint × Slot). IsIdle now z.0 z.1)
+            (own_slot May gone.0 gone.1 es e all h (slot_there May es gone.0 gone.1 all is.0) same)
+            (idle_is now gone is.1)) (left_without May gone.0 es e all h)
+
         bound_keeps : (port : ℕ) (a : Option Slot) → Kept (Mapped (bound key port now es a).1)
         bound_keeps port (Some slot) = stays _ (refreshed_in key now es e h)
         bound_keeps port None = unchanged (Mapped _) (in_front e es _ h)
@@ -85,21 +100,32 @@ module _ (m : Met) (e : Endpoint × Slot) where
       inr (k.0, k.1, k.2, λ later h. let old = followed_had c n es e.0 later h in k.3 old.0 old.1)
 
   module _ (s : Settings) (p : Packet) where
-    touch_keeps : (v : ℕ) (place : Place) (x : NatValue) (n : Noted) → TouchKind place x → Fits s v x
-        → KnownAt s m p place n → Has (mappings_in x) e → Kept (followed s n (touched place x n).0)
-    touch_keeps v _ _ n (finds es) fits k h =
+    touch_keeps : (v : ℕ) (place : Place) (x : NatValue) (n : Noted) (limit : Option ℕ) → TouchKind place x
+        → Fits s v x → KnownAt s m p place n → Has (mappings_in x) e
+        → Kept (followed s n (touched_by limit place x n).0)
+    touch_keeps v _ _ n None (finds es) fits k h =
         followed_keeps s.closing n (found n.source n.time es (slot_of n.source es) (first_idle n.time es)).1
         (found_keeps n.time k.1 (MayMap s v) es fits.2 h n.source (slot_of n.source es) (first_idle n.time es) refl)
-    touch_keeps v _ _ n (unbinds_freed bs) fits k h = absurd h
-    touch_keeps v _ _ n (gives_freed pool) fits k h = absurd h
-    touch_keeps v _ _ n (reserves pool) fits k h = absurd h
-    touch_keeps v _ _ n (binds bs) fits k h = absurd h
-    touch_keeps v _ _ n (finds_or_binds es) fits k h =
+    touch_keeps v _ _ n (Some most) (finds es) fits k h =
+        followed_keeps s.closing n (find_within most n.source n.time es).1
+        (by_find most n.source n.time es (λ (r : Find × Forwards). Kept (Mapped r.1))
+        (found_keeps n.time k.1 (MayMap s v) es fits.2 h n.source (slot_of n.source es) (first_idle n.time es) refl)
+        (λ gone none q. gives_keeps n.time k.1 (MayMap s v) es fits.2 h n.source gone q))
+    touch_keeps v _ _ n limit (unbinds_freed bs) fits k h = absurd h
+    touch_keeps v _ _ n limit (gives_freed pool) fits k h = absurd h
+    touch_keeps v _ _ n limit (reserves pool) fits k h = absurd h
+    touch_keeps v _ _ n limit (binds bs) fits k h = absurd h
+    touch_keeps v _ _ n None (finds_or_binds es) fits k h =
         followed_keeps s.closing n (bound n.source n.port n.time es (slot_of n.source es)).1
         (bound_keeps n.time k.1 (MayMap s v) es fits.2 h n.source n.port (slot_of n.source es))
-    touch_keeps v _ _ n (unbinds_lost bs) fits k h = absurd h
-    touch_keeps v _ _ n (gives_lost pool) fits k h = absurd h
-    touch_keeps v _ _ n (counts d) fits k h = absurd h
+    touch_keeps v _ _ n (Some most) (finds_or_binds es) fits k h =
+        followed_keeps s.closing n (bind_within most n.source n.port n.time es).1
+        (by_bind most n.source n.time es n.port (λ (r : Option Bind × Forwards). Kept (Mapped r.1))
+        (bound_keeps n.time k.1 (MayMap s v) es fits.2 h n.source n.port (slot_of n.source es))
+        (λ none full. unchanged (Mapped es) h))
+    touch_keeps v _ _ n limit (unbinds_lost bs) fits k h = absurd h
+    touch_keeps v _ _ n limit (gives_lost pool) fits k h = absurd h
+    touch_keeps v _ _ n limit (counts d) fits k h = absurd h
 
 module _ (s : Settings) (is : AreSettings s) (packets : List Packet) (value : ℕ → NatValue) (t : ℕ)
     (earlier : List (Step NatValue)) (taken taken_then : ℕ)
@@ -109,18 +135,19 @@ module _ (s : Settings) (is : AreSettings s) (packets : List Packet) (value : �
   Keeps before after d = Known s m before → Kept m e (left_by v (act_of t earlier taken_then d) (value v))
 
   at_touch : (h : Hand) (w : ℕ) → comes_to s h (Access w) → Known s m (Some h)
-      → Kept m e (cond (nat_eq w v) (followed s (noted h.place) (touched (at h) (value w) (noted h.place)).0) (value v))
+      → Kept m e (cond (nat_eq w v)
+      (followed s (noted h.place) (touched_by s.limit (at h) (value w) (noted h.place)).0) (value v))
   at_touch h w move k = by (is_or w v)
     where
       left : NatValue
-      left = followed s (noted h.place) (touched (at h) (value w) (noted h.place)).0
+      left = followed s (noted h.place) (touched_by s.limit (at h) (value w) (noted h.place)).0
 
       by : (w ≡ v) ⊎ (w ≢ v) → Kept m e (cond (nat_eq w v) left (value v))
       by (inl q) =
           let below = touched_below s is h w move in
           let kind = touch_kind s is.some (noted h.place) w (value w) (fits w below) (at h) move in
           subst (λ (b : Bool). Kept m e (cond b left (value v))) (sym (is_eq w v q))
-          (touch_keeps m e s h.packet w (at h) (value w) (noted h.place) kind (fits w below) k
+          (touch_keeps m e s h.packet w (at h) (value w) (noted h.place) s.limit kind (fits w below) k
           (subst (λ (u : ℕ). Has (mappings_in (value u)) e) (sym q) there))
       by (inr q) =
           subst (λ (b : Bool). Kept m e (cond b left (value v))) (sym (not_eq w v q)) (unchanged m e (value v) there)

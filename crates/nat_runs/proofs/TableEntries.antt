@@ -76,7 +76,7 @@ slot_in key slot (x ∷ es) e = by (same_endpoint key x.0) refl e (slot_in key s
         let k : x.0 ≡ key = sym (same_is key x.0 q) in let z : x.1 ≡ slot = cc in inl (λ i. (k i, z i))
     by false q e rest = inr (rest e)
 
-slot_there : (May : Endpoint → Slot → Type 0) (es : Forwards) (key : Endpoint) (slot : Slot) → AreMappings May es
+pub slot_there : (May : Endpoint → Slot → Type 0) (es : Forwards) (key : Endpoint) (slot : Slot) → AreMappings May es
     → Has es (key, slot) → slot_of key es ≡ Some slot
 slot_there May [] key slot all h = absurd h
 slot_there May (x ∷ es) key slot all (inl p) =

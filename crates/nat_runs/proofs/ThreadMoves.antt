@@ -19,7 +19,7 @@ use Rattle.flow_boxes.specs.declared.drops.Drops.{Drops}
 use Rattle.nat_box.specs.declared.value.NatValue.{NatValue}
 use Rattle.nat_box.specs.declared.value.NatValue.TheVariants.{Dropped, Free, Mapped, Taken}
 use Rattle.nat_box.specs.Places.{place_numbered, noted}
-use Rattle.nat_box.specs.Nat.{Settings, goes, next_move, seen_by, begun, touched, followed, looked, told, local_at}
+use Rattle.nat_box.specs.Nat.{Settings, goes, next_move, seen_by, begun, touched_by, followed, looked, told, local_at}
 use Rattle.nat_box.specs.Nat.{nat_meaning, Fits}
 use Rattle.nat_box.specs.Lawful.{AreSettings, var_of, touches_it, reads_it, below_all}
 use Rattle.nat_box.proofs.Making.{goes_on, comes_to}
@@ -221,8 +221,8 @@ module _ (s : Settings) (packets : List Packet) (value : ℕ → NatValue) (take
     (take : (p : Packet) → slice_get packets taken ≡ Some p
     → P None (holding (taken + 1) p (local_at (begun s (seen_by s p)))) Takes)
     (touch : (h : Hand) (v : ℕ) → comes_to s h (Access v)
-    → P (Some h) (holding taken h.packet (local_at (touched (at h) (value v) (noted h.place)).1))
-    (Touches v (followed s (noted h.place) (touched (at h) (value v) (noted h.place)).0)))
+    → P (Some h) (holding taken h.packet (local_at (touched_by s.limit (at h) (value v) (noted h.place)).1))
+    (Touches v (followed s (noted h.place) (touched_by s.limit (at h) (value v) (noted h.place)).0)))
     (look : (h : Hand) (v : ℕ) → comes_to s h (Read v)
     → P (Some h) (holding taken h.packet (local_at (looked (at h) (value v) (noted h.place)))) (Looks v))
     (clock : (h : Hand) (a : ℕ) → comes_to s h Clock
@@ -278,8 +278,8 @@ module _ (s : Settings) (packets : List Packet) (value : ℕ → NatValue) (take
     (P : Option Hand → Option Hand → Effect NatValue → Type 0)
     (take : (p : Packet) → slice_get packets taken ≡ Some p → P None (begins_with s p) Takes)
     (touch : (h : Hand) (v : ℕ) → comes_to s h (Access v)
-    → P (Some h) (goes_on h (touched (at h) (value v) (noted h.place)).1)
-    (Touches v (followed s (noted h.place) (touched (at h) (value v) (noted h.place)).0)))
+    → P (Some h) (goes_on h (touched_by s.limit (at h) (value v) (noted h.place)).1)
+    (Touches v (followed s (noted h.place) (touched_by s.limit (at h) (value v) (noted h.place)).0)))
     (look : (h : Hand) (v : ℕ) → comes_to s h (Read v)
     → P (Some h) (goes_on h (looked (at h) (value v) (noted h.place))) (Looks v))
     (clock : (h : Hand) (a : ℕ) → comes_to s h Clock

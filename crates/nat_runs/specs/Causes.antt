@@ -47,12 +47,6 @@ IsSeenAs s p flow = flow_seen s p ≡ Ok flow
 abbrev pub IsStray : Settings → Packet → ℕ → Type 0
 IsStray s p reason = (flow : Flow) × IsSeenAs s p flow × (class_seen s p ≡ None) × (reason ≡ 9)
 
--- 8: it comes from inside, and when it touched the pool, no port of its protocol was free
-abbrev pub FoundNoPort : Settings → Packet → Met → ℕ → Type 0
-FoundNoPort s p met reason =
-    (flow : Flow) × IsFlow p flow × IsFromInside s flow × (value : ℕ → NatValue) × (met.at_pool ≡ Some value)
-    × ((v port : ℕ) → v < 2 + 2 * s.shards → free_at (port_key flow.protocol port) (value v) ≡ 0) × (reason ≡ 8)
-
 -- nothing is bound to the port, in any table
 abbrev pub IsUnbound : Settings → (ℕ → NatValue) → PortKey → Type 0
 IsUnbound s value port =
@@ -62,6 +56,20 @@ IsUnbound s value port =
 abbrev pub HasNoneUsed : Settings → (ℕ → NatValue) → Endpoint → ℕ → ℕ → Type 0
 HasNoneUsed s value key port now =
     (v : ℕ) (slot : Slot) → IsMapping s value v (key, slot) → slot.port ≡ port → IsIdle now key slot
+
+-- its endpoint had no mapping that is not idle, when the packet touched a forward table
+abbrev pub HadNoneUsed : Settings → Flow → Met → Type 0
+HadNoneUsed s flow met =
+    (value : ℕ → NatValue) × (now : ℕ) × (met.at_touch ≡ Some value) × (met.clock ≡ Some now)
+    × ((port : ℕ) → HasNoneUsed s value (source_of flow) port now)
+
+-- 8: it comes from inside, from an endpoint that had no mapping that is not idle, and when it touched the pool, no port
+-- of its protocol was free
+abbrev pub FoundNoPort : Settings → Packet → Met → ℕ → Type 0
+FoundNoPort s p met reason =
+    (flow : Flow) × IsFlow p flow × IsFromInside s flow × HadNoneUsed s flow met
+    × (value : ℕ → NatValue) × (met.at_pool ≡ Some value)
+    × ((v port : ℕ) → v < 2 + 2 * s.shards → free_at (port_key flow.protocol port) (value v) ≡ 0) × (reason ≡ 8)
 
 -- an endpoint was bound to the port, and when the packet read a forward table, it had no mapping to it, or an idle one
 abbrev pub FoundNoneUsed : Settings → Flow → Met → (ℕ → NatValue) → Type 0

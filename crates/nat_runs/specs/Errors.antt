@@ -1,6 +1,6 @@
--- Errors of ICMP go through by the line alone: without it a packet is what its frame is as a flow, and none comes to the
--- place of errors.
-use Rattle.std.specs.Prelude.{◌≡◌, ℕ, false, List, Option, Some, Result, Ok, Err}
+-- Errors of ICMP go through by the line alone: without it a packet is what its frame is as a flow, and none comes to
+-- the place of errors.
+use Rattle.std.specs.Prelude.{◌≡◌, ℕ, Bool, false, List, Some, Result, Ok, Err}
 use Rattle.plain_text.specs.declared.packet.Packet.{Packet}
 use Rattle.packet_headers.specs.declared.flow.Flow.{Flow}
 use Rattle.packet_headers.specs.declared.flow.NotFlow.{NotFlow}
@@ -29,6 +29,16 @@ abbrev pub SendsByFlow : Type 0
 SendsByFlow =
     (s : Settings) → s.errors ≡ false → (p : Packet) (l : Local)
     → (nat_meaning s).out p l ≡ bytes_out s p.bytes (noted l) (flow_alone (viewed p.bytes p.original))
+
+-- All other moves are the same with the line and without it.
+abbrev pub OtherMovesAreTheSame : Type 0
+OtherMovesAreTheSame =
+    (s : Settings) (errors : Bool)
+    → nat_meaning (record s { errors = errors })
+    ≡ record (nat_meaning s) {
+      begin = (nat_meaning (record s { errors = errors })).begin;
+      out = (nat_meaning (record s { errors = errors })).out;
+    }
 
 -- after each move of each run
 abbrev pub NoneFindsPort : Type 0

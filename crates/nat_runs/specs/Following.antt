@@ -1,6 +1,6 @@
 -- Which connections are followed: where the settings have a number of seconds those of TCP, and each of their mappings
 -- has this number; else none, and each touch is that of the table of moves. And how a packet changes a mapping's phase.
-use Rattle.std.specs.Prelude.{◌≡◌, ℕ, ◌+◌, ◌*◌, ◌<◌, ◌⊎◌, ◌==◌, if◌then◌else◌, List, ◌∷◌, Option, Some}
+use Rattle.std.specs.Prelude.{◌≡◌, ℕ, ◌⊎◌, ◌==◌, if◌then◌else◌, List, ◌∷◌, Option, Some}
 use Rattle.std.specs.Prelude.{None, Ok}
 use Rattle.plain_text.specs.declared.packet.Packet.{Packet}
 use Rattle.packet_headers.specs.declared.flow.Flow.{Flow}
@@ -19,7 +19,7 @@ use Rattle.flow_boxes.specs.Flows.{source_of, HaveBytes}
 use Rattle.nat_box.specs.declared.seeing.Seen.{Seen}
 use Rattle.nat_box.specs.declared.value.NatValue.{NatValue}
 use Rattle.nat_box.specs.Places.{place_numbered, noted}
-use Rattle.nat_box.specs.Nat.{Settings, segment_of, begun, touched, local_at, nat_meaning}
+use Rattle.nat_box.specs.Nat.{Settings, segment_of, begun, touched_by, local_at, nat_meaning}
 use Rattle.nat_box.specs.Lawful.{AreSettings}
 use Rattle.nat_box.specs.Sentences.{Has, mappings_in, IsMapping}
 
@@ -47,12 +47,13 @@ NoneFollowedWithoutIt =
     (slot : Slot) → AreSettings s → IsHistory (nat_meaning s) inputs threads steps → s.closing ≡ None
     → IsMapping s (value_after (nat_meaning s) steps) v (key, slot) → (slot.phase ≡ Plain) ⊎ (slot.phase ≡ Kept)
 
--- and then each touch is the one of the table of moves alone, and a packet begins with no segment noted
+-- and then each touch is the one of the table of moves, or of the limit, alone, and a packet begins with no segment
+-- noted
 abbrev pub TouchesAsBefore : Type 0
 TouchesAsBefore =
     (s : Settings) → s.closing ≡ None → (v : ℕ) (x : NatValue) (l : Local)
     → (nat_meaning s).touch v x l
-    ≡ (let r = touched (place_numbered l.at) x (noted l) in (r.0, local_at r.1))
+    ≡ (let r = touched_by s.limit (place_numbered l.at) x (noted l) in (r.0, local_at r.1))
 
 abbrev pub BeginsAsBefore : Type 0
 BeginsAsBefore = (s : Settings) → s.closing ≡ None → (seen : Seen) → (begun s seen).noted.segment ≡ Silent

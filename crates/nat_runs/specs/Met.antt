@@ -10,8 +10,9 @@ use Rattle.nat_box.specs.Nat.{Settings, nat_meaning}
 use Rattle.nat_box.specs.Emissions.{left_forward}
 
 pub record Met : Type 0 where
-  -- the values of the variables when it touched the pool, when it read a reverse table, and when it read a forward
-  -- table
+  -- the values of the variables when it touched a forward table, when it touched the pool, when it read a reverse
+  -- table, and when it read a forward table
+  pub at_touch : Option (ℕ → NatValue)
   pub at_pool : Option (ℕ → NatValue)
   pub at_reverse : Option (ℕ → NatValue)
   pub at_forward : Option (ℕ → NatValue)
@@ -21,12 +22,19 @@ pub record Met : Type 0 where
   pub clock : Option ℕ
 
 abbrev pub nothing_met : Met
-nothing_met = record { at_pool = None; at_reverse = None; at_forward = None; left = None; clock = None }
+nothing_met = record {
+  at_touch = None;
+  at_pool = None;
+  at_reverse = None;
+  at_forward = None;
+  left = None;
+  clock = None;
+}
 
 abbrev pub met_by_touch : (ℕ → NatValue) → NatValue → Option NatValue → Met → Met
 met_by_touch value (Dropped d) left old = old
 met_by_touch value (Free pool) left old = record old { at_pool = Some value }
-met_by_touch value (Mapped es) left old = record old { left = left_forward left old.left }
+met_by_touch value (Mapped es) left old = record old { at_touch = Some value; left = left_forward left old.left }
 met_by_touch value (Taken bs) left old = old
 
 abbrev pub met_by_read : (ℕ → NatValue) → NatValue → Met → Met

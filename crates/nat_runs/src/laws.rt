@@ -8,8 +8,10 @@ ghost use Rattle.nat_runs.specs.Causes.{DropsHaveCauses};
 ghost use Rattle.nat_runs.specs.Inbound.{InboundChangesNoTable};
 ghost use Rattle.nat_runs.specs.Refreshing.{HostsRefresh, SentRefresh};
 ghost use Rattle.nat_runs.specs.StaticPorts.{StaticPortsStay, NoneIsDropped, OnlyTheyAreKept};
+ghost use Rattle.nat_runs.specs.StaticPorts.{NoneGoingOutIsDropped, OnlyTheyStart};
 ghost use Rattle.nat_runs.specs.StaticPorts.{MovesAreTheSame, NoneStartsWithoutThem};
 ghost use Rattle.nat_runs.specs.Errors.{BeginsByFlow, SendsByFlow, NoneFindsPort};
+ghost use Rattle.nat_runs.specs.Errors.{OtherMovesAreTheSame};
 ghost use Rattle.nat_runs.specs.Limits.{HostsKeepWithin, TouchesWithoutLimit, TablesWithoutLimit};
 
 /// After each move of each run, whatever its threads, its inputs and the order of its moves: each packet that a thread
@@ -33,9 +35,9 @@ pub fn mappings_stay_until_idle()
 
 /// Each mapping whose connection is followed is of TCP, and has the box's number of seconds (`by_the_line`). Where the
 /// box has none, no connection is followed, so each mapping is kept as its protocol says, or for good
-/// (`none_without_it`); each
-/// touch is that of the table of moves alone (`touches`), and no segment is noted (`begins`). The phase of a mapping
-/// changes by a packet from its own inside endpoint alone, and as the control bits of this packet say (`hosts`).
+/// (`none_without_it`); each touch is that of the table of moves, or of the limit, alone (`touches`), and no segment is
+/// noted (`begins`). The phase of a mapping changes by a packet from its own inside endpoint alone, and as the control
+/// bits of this packet say (`hosts`).
 pub fn connections_are_followed_by_the_line()
     ensures by_the_line { FollowedByTheLine }
     ensures none_without_it { NoneFollowedWithoutIt }
@@ -52,10 +54,12 @@ pub fn what_comes_in_found_a_used_mapping()
     ensures { ComesInByUsed }
 {}
 
-/// Each drop that is counted has the cause of its reason: the frame is no flow (1 to 6), or a stray (9); no port of its
-/// protocol was free (8); nothing was bound to the port that it goes to, or only an idle mapping (7). So what comes to
-/// a port with a used mapping is let in, whatever its source (RFC 4787, REQ-8, endpoint-independent filtering). An error
-/// of ICMP is a stray where it is about no packet that the box may have translated, and else found no used mapping.
+/// Each drop that is counted has the cause of its reason: the frame is no flow (1 to 6), or a stray (9); its endpoint
+/// had no mapping or an idle one, and no port of its protocol was free (8); nothing was bound to the port that it goes
+/// to, or only an idle mapping (7); its host had as many mappings of its protocol as it may have, and its endpoint none
+/// (10). So what comes to a port with a used mapping is let in, whatever its source (RFC 4787, REQ-8,
+/// endpoint-independent filtering). An error of ICMP is a stray where it is about no packet that the box may have
+/// translated, and else found no used mapping.
 pub fn drops_have_their_causes()
     ensures { DropsHaveCauses }
 {}
@@ -77,11 +81,15 @@ pub fn hosts_refresh_their_own_mappings()
 /// After each move of each run, whatever its threads, its inputs and the order of its moves, each static port that
 /// counts stands: its inside endpoint is mapped to its outside port, the port's reverse entry names this endpoint, and
 /// no other endpoint is mapped to the port (`stay`). An inbound packet to it is never counted as dropped, at any time
-/// (`let_in`). No other mapping is kept for good (`kept`). The moves are the same whatever static ports there are
-/// (`moves`), and with none the variables start with all ports free and with empty tables (`none`).
+/// (`let_in`), nor an outbound one from its inside endpoint, whether ports are free or not (`let_out`). No other
+/// mapping is kept for good (`kept`), and at the start no table has anything but theirs (`starts`). The moves are the
+/// same whatever static ports there are (`moves`), and with none the variables start with all ports free and with empty
+/// tables (`none`).
 pub fn static_ports_stay()
     ensures stay { StaticPortsStay }
     ensures let_in { NoneIsDropped }
+    ensures let_out { NoneGoingOutIsDropped }
+    ensures starts { OnlyTheyStart }
     ensures kept { OnlyTheyAreKept }
     ensures moves { MovesAreTheSame }
     ensures none { NoneStartsWithoutThem }
@@ -98,9 +106,11 @@ pub fn hosts_keep_within_their_limit()
 {}
 
 /// Where the box has no line for errors of ICMP, each packet begins, and is sent out, as its frame is a flow or none
-/// (`begins`, `sends`), and no packet comes to the place of errors that go out (`none`).
+/// (`begins`, `sends`), and no packet comes to the place of errors that go out (`none`). All other moves are the same
+/// with the line and without it (`moves`).
 pub fn errors_go_through_by_the_line()
     ensures begins { BeginsByFlow }
     ensures sends { SendsByFlow }
     ensures none { NoneFindsPort }
+    ensures moves { OtherMovesAreTheSame }
 {}

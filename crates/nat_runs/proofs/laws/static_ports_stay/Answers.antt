@@ -1,5 +1,6 @@
 use Rattle.nat_runs.proofs.StaticPorts.{static_ports_stay, none_is_dropped, only_they_are_kept, moves_are_the_same}
 use Rattle.nat_runs.proofs.StaticPorts.{none_starts_without_them}
+use Rattle.nat_runs.proofs.StaticSources.{none_going_out_is_dropped, only_they_start}
 use Rattle.nat_runs.proofs.laws.static_ports_stay.Goals as goal
 
 pub returns-clause-stay : goal.returns-clause-stay
@@ -16,3 +17,9 @@ returns-clause-moves c = moves_are_the_same
 
 pub returns-clause-none : goal.returns-clause-none
 returns-clause-none c = none_starts_without_them
+
+pub returns-clause-let_out : goal.returns-clause-let_out
+returns-clause-let_out c = none_going_out_is_dropped
+
+pub returns-clause-starts : goal.returns-clause-starts
+returns-clause-starts c = only_they_start
