@@ -14,8 +14,8 @@ use Rattle.box_conf.specs.declared.kind.BoxConf.{BoxConf}
 use Rattle.box_conf.specs.declared.kind.KindWord.{KindWord}
 use Rattle.box_conf.specs.declared.kind.KindWord.TheVariants as kind
 use Rattle.box_conf.specs.declared.names.Named.{Named}
-use Rattle.box_conf.specs.declared.table.BoxLine.TheVariants.{Threads, Seed, Shards, Inside, Outside, Ports, Closing, Limit}
-use Rattle.box_conf.specs.declared.table.BoxLine.TheVariants.{Icmp, Static, Virtual, Backend}
+use Rattle.box_conf.specs.declared.table.BoxLine.TheVariants.{Threads, Seed, Shards, Inside, Outside, Ports, Closing}
+use Rattle.box_conf.specs.declared.table.BoxLine.TheVariants.{Limit, Icmp, Static, Virtual, Backend}
 use Rattle.box_conf.specs.declared.table.BoxLine.{BoxLine}
 use Rattle.box_conf.specs.Names.{named_in, names_fault, no_names}
 use Rattle.box_conf.specs.BoxFile.{AreOfKind, IsDescribed, IsBoxFile, Names, NamesNone, LeavesTable, NamesInVain}

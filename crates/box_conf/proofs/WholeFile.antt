@@ -17,8 +17,8 @@ use Rattle.box_conf.specs.declared.kind.BoxConf.{BoxConf}
 use Rattle.box_conf.specs.declared.settings.Settings.{Settings}
 use Rattle.box_conf.specs.declared.kind.KindWord.{KindWord}
 use Rattle.box_conf.specs.declared.table.BoxLine.{BoxLine}
-use Rattle.box_conf.specs.declared.table.BoxLine.TheVariants.{Threads, Seed, Shards, Inside, Outside, Ports, Closing, Limit}
-use Rattle.box_conf.specs.declared.table.BoxLine.TheVariants.{Icmp, Static, Virtual, Backend}
+use Rattle.box_conf.specs.declared.table.BoxLine.TheVariants.{Threads, Seed, Shards, Inside, Outside, Ports, Closing}
+use Rattle.box_conf.specs.declared.table.BoxLine.TheVariants.{Limit, Icmp, Static, Virtual, Backend}
 use Rattle.box_conf.specs.declared.table.Values.{Values}
 use Rattle.box_conf.specs.Names.{named_in}
 use Rattle.box_conf.specs.BoxFile.{AreOfKind, Names, NamesNone, Has as HasValues}

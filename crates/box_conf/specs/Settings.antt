@@ -7,8 +7,8 @@ use Rattle.plain_text.specs.Grammar.{form_fault, misfit, range_fault, row_fault,
 use Rattle.box_conf.specs.declared.settings.ReadValues.{ReadValues}
 use Rattle.box_conf.specs.declared.settings.Settings.{Settings}
 use Rattle.box_conf.specs.declared.table.BoxLine.{BoxLine}
-use Rattle.box_conf.specs.declared.table.BoxLine.TheVariants.{Threads, Seed, Shards, Inside, Outside, Ports, Closing, Limit}
-use Rattle.box_conf.specs.declared.table.BoxLine.TheVariants.{Icmp, Static, Virtual, Backend}
+use Rattle.box_conf.specs.declared.table.BoxLine.TheVariants.{Threads, Seed, Shards, Inside, Outside, Ports, Closing}
+use Rattle.box_conf.specs.declared.table.BoxLine.TheVariants.{Limit, Icmp, Static, Virtual, Backend}
 use Rattle.box_conf.specs.declared.table.LinePlace.{LinePlace}
 use Rattle.box_conf.specs.declared.table.Values.{Values}
 use Rattle.box_conf.specs.Table.{again_of, fits_of, grammar_place, row_of, usual_of, values_from}

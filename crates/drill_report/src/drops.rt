@@ -5,8 +5,8 @@ ghost use Rattle.drill_report.specs.Report.{reason_word as word_of};
 use plain_text::{Bytes, NoMemory};
 use recovery_world::Outcome;
 
-/// Appends the word for a reason of drops, by its digit; that of reason 10 is `:`, the byte behind `9`. Another digit is
-/// appended as it is.
+/// Appends the word for a reason of drops, by its digit; that of reason 10 is `:`, the byte behind `9`. Another digit
+/// is appended as it is.
 pub fn put_reason(out: &mut Bytes, digit: u8) -> Result<(), NoMemory>
     ensures { OnOk result (out.new ≡ out.old ++ word_of digit) }
 {
