@@ -1,5 +1,5 @@
-ghost use Rattle.std.specs.Prelude.{◌≡◌, ℕ, ◌+◌, ◌-◌, ◌<◌, ◌≤◌, Some, None, MatchOption, IfOk};
-ghost use Rattle.std.specs.Prelude.{length, if◌then◌else◌};
+ghost use Rattle.std.specs.Prelude.{◌≡◌, ℕ, ◌+◌, ◌-◌, ◌^◌, ◌<◌, ◌≤◌, Some, None, MatchOption, IfOk};
+ghost use Rattle.std.specs.Prelude.{length, slice_index_or, false, true, if◌then◌else◌};
 ghost use Rattle.nat_tables.specs.Ports.{chosen, reserved_of, given_back_to, ports_from, no_ports};
 ghost use Rattle.nat_tables.specs.Ports.{has_port, ports_without};
 ghost use Rattle.nat_tables.specs.Keys.{port_key};
@@ -44,16 +44,37 @@ fn choose(ports: &mut ParityPorts, parity: u16, draw: u64) -> Option<u16>
     Some(ports.take(parity, at))
 }
 
-/// Whether a port of a protocol stands in a list.
-fn has_port(list: &[PortKey], protocol: u8, port: u16) -> bool
-    ensures { result ≡ has_port (port_key protocol port) list.now }
+/// Marks the ports of a protocol that stand in a list.
+fn mark_ports(marks: &mut [bool], list: &[PortKey], protocol: u8)
+    requires { length marks.old ≡ 2 ^ 16 }
+    ensures { (port : ℕ) → port < 2 ^ 16 → slice_index_or marks.new port false
+        ≡ (if has_port (port_key protocol port) list.now then true else slice_index_or marks.old port false) }
 {
-    for other in list {
-        if protocol == other.protocol && port == other.port {
-            return true;
+    for key in list {
+        if key.protocol == protocol {
+            marks[usize::from(key.port)] = true;
         }
     }
-    false
+}
+
+/// This number of marks, none of them set.
+fn no_marks(alloc: Global, count: usize) -> Result<Vec<bool>, NoMemory>
+    ensures long { IfOk result (λ marks. length marks.items ≡ count) }
+    ensures none { IfOk result (λ marks. (port : ℕ)
+        → slice_index_or marks.items port false ≡ false) }
+{
+    Ok(vec![in alloc; false; count]?)
+}
+
+/// For each port, whether it stands in a list under a protocol.
+fn marks_of(alloc: Global, list: &[PortKey], protocol: u8) -> Result<Vec<bool>, NoMemory>
+    ensures long { IfOk result (λ marks. length marks.items ≡ 2 ^ 16) }
+    ensures each { IfOk result (λ marks. (port : ℕ) → port < 2 ^ 16
+        → slice_index_or marks.items port false ≡ has_port (port_key protocol port) list.now) }
+{
+    let mut marks = no_marks(alloc, 65536)?;
+    mark_ports(&mut marks, list, protocol);
+    Ok(marks)
 }
 
 impl FreePorts {
@@ -72,12 +93,11 @@ impl FreePorts {
         Ok(ports)
     }
 
-    /// Makes a port of a protocol free, unless it stands in the list.
-    fn give_back_unless(&mut self, out: &[PortKey], protocol: u8, port: u16)
-        ensures { self.new ≡ (if has_port (port_key protocol port) out.now then self.old
-            else given_back_to port self.old) }
+    /// Makes a port free, unless it is marked.
+    fn give_back_unless(&mut self, marked: bool, port: u16)
+        ensures { self.new ≡ (if marked then self.old else given_back_to port self.old) }
     {
-        if !has_port(out, protocol, port) {
+        if !marked {
             self.give_back(port);
         }
     }
@@ -95,12 +115,13 @@ impl FreePorts {
         ensures { IfOk result (λ ports. ports
             ≡ ports_without out.now protocol low (high + 1 - low)) }
     {
+        let marks = marks_of(alloc, out, protocol)?;
         let mut ports = FreePorts {
             even: ParityPorts::empty(alloc)?,
             odd: ParityPorts::empty(alloc)?,
         };
         for number in u32::from(low)..u32::from(high) + 1 {
-            ports.give_back_unless(out, protocol, number as u16);
+            ports.give_back_unless(marks[number as usize], number as u16);
         }
         Ok(ports)
     }
