@@ -48,7 +48,8 @@ fn choose(ports: &mut ParityPorts, parity: u16, draw: u64) -> Option<u16>
 fn mark_ports(marks: &mut [bool], list: &[PortKey], protocol: u8)
     requires { length marks.old ≡ 2 ^ 16 }
     ensures { (port : ℕ) → port < 2 ^ 16 → slice_index_or marks.new port false
-        ≡ (if has_port (port_key protocol port) list.now then true else slice_index_or marks.old port false) }
+        ≡ (if has_port (port_key protocol port) list.now then true
+        else slice_index_or marks.old port false) }
 {
     for key in list {
         if key.protocol == protocol {

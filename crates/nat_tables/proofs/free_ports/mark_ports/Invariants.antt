@@ -8,6 +8,8 @@ abbrev pub invariant-loop-key : goal.invariant-loop-key
 invariant-loop-key l = record {
   long : length l.marks ≡ 2 ^ 16;
   each : (port : ℕ) → port < 2 ^ 16
-      → (if has_port (port_key l.protocol port) (drop l.key-index l.list) then true else slice_index_or l.marks port false)
-      ≡ (if has_port (port_key l.protocol port) l.list then true else slice_index_or l.initial.marks port false);
+      → (if has_port (port_key l.protocol port) (drop l.key-index l.list) then true
+      else slice_index_or l.marks port false)
+      ≡ (if has_port (port_key l.protocol port) l.list then true
+      else slice_index_or l.initial.marks port false);
 }
