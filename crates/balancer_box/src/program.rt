@@ -6,7 +6,7 @@ use crate::{BalancerBox, BalancerValue, Connections, Goes, Loads, Noted, Place};
 use box_program::{Local, Move, Program};
 use flow_boxes::Drops;
 use packet_headers::view;
-use plain_text::{Bytes, NoMemory, Packet, Text};
+use plain_text::{Bytes, NoMemory, Text};
 use std::alloc::Global;
 
 impl BalancerBox {
@@ -45,9 +45,8 @@ impl Program for BalancerBox {
         }
     }
 
-    fn begin(&self, packet: &Packet) -> Local {
-        self.begun(view(packet.bytes.as_slice(), packet.original))
-            .local()
+    fn begin(&self, frame: &[u8], original: u32) -> Local {
+        self.begun(view(frame, original)).local()
     }
 
     fn next(&self, local: &Local) -> Move {
@@ -98,9 +97,15 @@ impl Program for BalancerBox {
         *local = Goes::to(Place::Ends, self.noted(local)).local();
     }
 
-    fn packet_out(&self, alloc: Global, packet: &Packet, local: &Local) -> Result<Bytes, NoMemory> {
-        let seen = view(packet.bytes.as_slice(), packet.original);
-        self.sent(alloc, packet.bytes.as_slice(), seen, &self.noted(local))
+    fn packet_out(
+        &self,
+        alloc: Global,
+        frame: &[u8],
+        original: u32,
+        local: &Local,
+    ) -> Result<Bytes, NoMemory> {
+        let seen = view(frame, original);
+        self.sent(alloc, frame, seen, &self.noted(local))
     }
 
     fn copy_value(

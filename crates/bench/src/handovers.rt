@@ -41,7 +41,7 @@ fn come_to_rest(system: &mut System<TouchBox>) -> Result<(), Stop>
 fn image_of(alloc: Global, packets: Packets) -> anyhow::Result<Image>
     requires { All IsShort packets }
 {
-    let mut system = System::new(alloc, TouchBox::new(), 1, 0, Unit::Micro, packets)?;
+    let mut system = System::new(alloc, TouchBox::new(), 1, false, 0, Unit::Micro, packets)?;
     let rested = come_to_rest(&mut system);
     let image = system.image();
     system.discard();
@@ -65,7 +65,16 @@ fn go_on_often(alloc: Global, text: &Bytes, count: u64, times: u64) -> anyhow::R
     for _ in 0..times {
         let packets = touching_packets(alloc, count)?;
         let image = read_image(alloc, text.as_slice()).map_err(|fault| anyhow!("{fault:?}"))?;
-        let resumed = System::resume(alloc, TouchBox::new(), 1, 0, Unit::Micro, packets, &image);
+        let resumed = System::resume(
+            alloc,
+            TouchBox::new(),
+            1,
+            false,
+            0,
+            Unit::Micro,
+            packets,
+            &image,
+        );
         match resumed {
             Ok(system) => system.discard(),
             Err(fault) => return Err(anyhow!("{fault:?}")),

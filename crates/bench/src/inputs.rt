@@ -39,7 +39,7 @@ pub fn feed_all(alloc: Global, threads: u32, packets: Packets) -> Result<InputLo
     requires some { 1 ≤ threads }
     requires few { threads ≤ 16 }
 {
-    let mut inputs = InputLog::new(alloc, threads)?;
+    let mut inputs = InputLog::new(alloc, threads, false)?;
     for packet in packets.into_vec() {
         inputs.feed(packet)?;
     }

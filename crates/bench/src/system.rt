@@ -110,7 +110,7 @@ fn perform_all<P: Program>(
     requires { All IsShort packets }
 {
     let count = packets.len();
-    let mut system = System::new(alloc, program, 1, 0, Unit::Micro, packets)?;
+    let mut system = System::new(alloc, program, 1, false, 0, Unit::Micro, packets)?;
     let done = perform_packets(&mut system, count, settles);
     system.discard();
     done

@@ -4,7 +4,7 @@ ghost use Rattle.box_program.specs.Count.{count_meaning, IsCounter, count_lawful
 use crate::Program;
 use crate::numbered::numbered_bytes;
 use plain_machine::{Local, Move};
-use plain_text::{Bytes, NoMemory, Packet, Text};
+use plain_text::{Bytes, NoMemory, Text};
 use std::alloc::Global;
 
 /// The places of the program: the touch, then the packet goes out, then the end.
@@ -45,7 +45,7 @@ impl Program for CountBox {
         Ok(0)
     }
 
-    fn begin(&self, _packet: &Packet) -> Local {
+    fn begin(&self, _frame: &[u8], _original: u32) -> Local {
         Local {
             at: COUNTS,
             regs: [0; 12],
@@ -81,8 +81,14 @@ impl Program for CountBox {
         local.at = ENDS;
     }
 
-    fn packet_out(&self, alloc: Global, packet: &Packet, local: &Local) -> Result<Bytes, NoMemory> {
-        numbered_bytes(alloc, packet.bytes.as_slice(), local.regs[0])
+    fn packet_out(
+        &self,
+        alloc: Global,
+        frame: &[u8],
+        _original: u32,
+        local: &Local,
+    ) -> Result<Bytes, NoMemory> {
+        numbered_bytes(alloc, frame, local.regs[0])
     }
 
     fn copy_value(&self, _alloc: Global, _var: u32, value: &u64) -> Result<u64, NoMemory> {

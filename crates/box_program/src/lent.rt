@@ -1,5 +1,5 @@
 use crate::{Local, Move, Program};
-use plain_text::{Bytes, NoMemory, Packet, Text};
+use plain_text::{Bytes, NoMemory, Text};
 use std::alloc::Global;
 
 /// A box that is lent, so that more than one system can run it, one after another. It is the box itself.
@@ -25,8 +25,8 @@ impl<'a, P: Program> Program for Lent<'a, P> {
         self.program.fresh(alloc, var)
     }
 
-    fn begin(&self, packet: &Packet) -> Local {
-        self.program.begin(packet)
+    fn begin(&self, frame: &[u8], original: u32) -> Local {
+        self.program.begin(frame, original)
     }
 
     fn next(&self, local: &Local) -> Move {
@@ -55,8 +55,14 @@ impl<'a, P: Program> Program for Lent<'a, P> {
         self.program.emitted(local);
     }
 
-    fn packet_out(&self, alloc: Global, packet: &Packet, local: &Local) -> Result<Bytes, NoMemory> {
-        self.program.packet_out(alloc, packet, local)
+    fn packet_out(
+        &self,
+        alloc: Global,
+        frame: &[u8],
+        original: u32,
+        local: &Local,
+    ) -> Result<Bytes, NoMemory> {
+        self.program.packet_out(alloc, frame, original, local)
     }
 
     fn copy_value(&self, alloc: Global, var: u32, value: &P::Value) -> Result<P::Value, NoMemory> {

@@ -5,7 +5,7 @@ ghost use Rattle.box_program.specs.Peek.{peek_meaning, peek_lawful};
 use crate::Program;
 use crate::numbered::numbered_bytes;
 use plain_machine::{Local, Move};
-use plain_text::{Bytes, NoMemory, Packet, Text};
+use plain_text::{Bytes, NoMemory, Text};
 use std::alloc::Global;
 
 /// The places of the program: the touch or the read, then the packet goes out, then the end.
@@ -46,12 +46,8 @@ impl Program for PeekBox {
         Ok(0)
     }
 
-    fn begin(&self, packet: &Packet) -> Local {
-        let at = if packet.bytes.len() % 2 == 0 {
-            COUNTS
-        } else {
-            LOOKS
-        };
+    fn begin(&self, frame: &[u8], _original: u32) -> Local {
+        let at = if frame.len() % 2 == 0 { COUNTS } else { LOOKS };
         Local { at, regs: [0; 12] }
     }
 
@@ -88,8 +84,14 @@ impl Program for PeekBox {
         local.at = ENDS;
     }
 
-    fn packet_out(&self, alloc: Global, packet: &Packet, local: &Local) -> Result<Bytes, NoMemory> {
-        numbered_bytes(alloc, packet.bytes.as_slice(), local.regs[0])
+    fn packet_out(
+        &self,
+        alloc: Global,
+        frame: &[u8],
+        _original: u32,
+        local: &Local,
+    ) -> Result<Bytes, NoMemory> {
+        numbered_bytes(alloc, frame, local.regs[0])
     }
 
     fn copy_value(&self, _alloc: Global, _var: u32, value: &u64) -> Result<u64, NoMemory> {

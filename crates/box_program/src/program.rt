@@ -1,9 +1,10 @@
 ghost use Rattle.std.specs.Prelude.{◌≡◌, ◌<◌, ℕ, IfOk, OnOk, OnErr};
 ghost use Rattle.plain_machine.specs.Program.{Meaning, IsLawful};
 ghost use Rattle.plain_machine.specs.declared.local.Move.TheVariants.{Access, Emit};
+ghost use Rattle.plain_text.specs.declared.packet.Packet.{Packet};
 
 use plain_machine::{Local, Move};
-use plain_text::{Bytes, NoMemory, Packet, Text};
+use plain_text::{Bytes, NoMemory, Text};
 use std::alloc::Global;
 
 /// A box program: the shared variables that live on between packets, and what is done with a packet, one move at a
@@ -30,9 +31,10 @@ pub trait Program: Drop {
         requires { var < (meaning self.now).vars }
         ensures { IfOk result (λ value. value ≡ (meaning self.now).fresh var) };
 
-    /// Where a packet begins.
-    fn begin(&self, packet: &Packet) -> Local
-        ensures { result ≡ (meaning self.now).begin packet.now };
+    /// Where a packet begins: its bytes, and how many it had on the wire.
+    fn begin(&self, frame: &[u8], original: u32) -> Local
+        ensures { (p : Packet) → p.bytes ≡ frame.now → p.original ≡ original
+            → result ≡ (meaning self.now).begin p };
 
     /// The next move with the packet in hand.
     fn next(&self, local: &Local) -> Move
@@ -68,10 +70,17 @@ pub trait Program: Drop {
         requires { (meaning self.now).next local.old ≡ Emit }
         ensures { local.new ≡ (meaning self.now).emitted local.old };
 
-    /// The bytes to send out, as many as the packet has.
-    fn packet_out(&self, alloc: Global, packet: &Packet, local: &Local) -> Result<Bytes, NoMemory>
+    /// The bytes to send out of a packet of these bytes, as many as they are.
+    fn packet_out(
+        &self,
+        alloc: Global,
+        frame: &[u8],
+        original: u32,
+        local: &Local,
+    ) -> Result<Bytes, NoMemory>
         requires { (meaning self.now).next local.now ≡ Emit }
-        ensures { IfOk result (λ bytes. bytes ≡ (meaning self.now).out packet.now local.now) };
+        ensures { (p : Packet) → p.bytes ≡ frame.now → p.original ≡ original
+            → IfOk result (λ bytes. bytes ≡ (meaning self.now).out p local.now) };
 
     /// A copy that means the same.
     fn copy_value(

@@ -15,6 +15,7 @@ abbrev pub setting_with : {V : Type 0} → Meaning V → SystemShape → Fractio
 setting_with m shape u packets = record {
   meaning = m;
   threads = shape.threads;
+  tags = shape.tags;
   fractions = u;
   packets = packets;
   seed = shape.seed;

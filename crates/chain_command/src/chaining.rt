@@ -45,9 +45,26 @@ fn open_systems<P: Program, Q: Program>(
         (setting_with (Q.meaning second) shapes.1 unit [])
         (chain_opening P.Value Q.Value) chain) }
 {
-    let first = System::new(alloc, first, shapes.0.threads, shapes.0.seed, unit, packets)?;
+    let (shape, other) = shapes;
+    let first = System::new(
+        alloc,
+        first,
+        shape.threads,
+        shape.tags,
+        shape.seed,
+        unit,
+        packets,
+    )?;
     let none = Packets::new(alloc);
-    match System::new(alloc, second, shapes.1.threads, shapes.1.seed, unit, none) {
+    match System::new(
+        alloc,
+        second,
+        other.threads,
+        other.tags,
+        other.seed,
+        unit,
+        none,
+    ) {
         Ok(second) => Ok(Chain::new(first, second)),
         Err(no_memory) => {
             first.discard();

@@ -12,11 +12,13 @@ use pcap_io::put_header;
 use plain_text::{Packets, Text, Unit};
 use world_io::World;
 
-/// On how many threads a system runs, and with which seed.
+/// On how many threads a system runs, whether it looks through one tag, and with which seed.
 #[derive(Clone, Copy)]
 pub struct SystemShape {
     /// The number of threads, 1 to 16.
     pub threads: u32,
+    /// Whether one tag is looked through.
+    pub tags: bool,
     /// The seed of the generator of random words.
     pub seed: u64,
 }

@@ -32,6 +32,7 @@ abbrev pub setting_of : {V : Type 0} → Meaning V → DrillRun → Setting V
 setting_of m run = record {
   meaning = m;
   threads = run.threads;
+  tags = run.tags;
   fractions = run.unit;
   packets = run.packets;
   seed = run.seed;

@@ -18,6 +18,7 @@ abbrev pub setting_with : {V : Type 0} → Meaning V → Frame → List Packet �
 setting_with m frame packets = record {
   meaning = m;
   threads = frame.threads;
+  tags = frame.tags;
   fractions = frame.unit;
   packets = packets;
   seed = frame.seed;

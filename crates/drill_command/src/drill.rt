@@ -35,6 +35,8 @@ use world_io::World;
 pub struct DrillRun {
     /// The number of threads, 1 to 16.
     pub threads: u32,
+    /// Whether one tag is looked through.
+    pub tags: bool,
     /// The seed of the generator of random words.
     pub seed: u64,
     /// What the fractions of the packets count.
@@ -144,6 +146,7 @@ fn perform_drill<P: Program>(alloc: Global, run: DrillRun, program: &P) -> Resul
 {
     let frame = Frame {
         threads: run.threads,
+        tags: run.tags,
         seed: run.seed,
         unit: run.unit,
     };

@@ -34,11 +34,13 @@ pub struct Ran {
     pub end: Result<Ended, Stop>,
 }
 
-/// On how many threads a box runs, with which seed, and what the fractions of the packets count.
+/// On how many threads a box runs, whether one tag is looked through, with which seed, and what the fractions of the
+/// packets count.
 #[derive(Clone, Copy)]
 pub struct Frame {
     /// 1 to 16.
     pub threads: u32,
+    pub tags: bool,
     pub seed: u64,
     pub unit: Unit,
 }
@@ -149,6 +151,14 @@ pub fn run_box<P: Program>(
         ran.outputs) }
 {
     let lent = Lent { program };
-    let system = System::new(alloc, lent, frame.threads, frame.seed, frame.unit, packets)?;
+    let system = System::new(
+        alloc,
+        lent,
+        frame.threads,
+        frame.tags,
+        frame.seed,
+        frame.unit,
+        packets,
+    )?;
     Ok(run_events(system, events))
 }

@@ -96,7 +96,15 @@ pub fn run_hand<P: Program, W: World>(
         (names_of files.entry) run.events (W.shows p world.old) (W.shows p world.new) }
     ensures before { (p : Start) → W.honest p world.new → W.honest p world.old }
 {
-    let mut system = System::new(alloc, program, run.threads, run.seed, run.unit, run.packets)?;
+    let mut system = System::new(
+        alloc,
+        program,
+        run.threads,
+        run.tags,
+        run.seed,
+        run.unit,
+        run.packets,
+    )?;
     let events = run.events.as_slice();
     let ended = hand_over(alloc, world, files, run.unit, events, &mut system);
     system.discard();

@@ -63,6 +63,7 @@ pub fn run_resume<P: Program, W: World>(
         alloc,
         program,
         run.threads,
+        run.tags,
         run.seed,
         run.unit,
         run.packets,

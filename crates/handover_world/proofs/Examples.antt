@@ -1,6 +1,6 @@
 -- Images of a few rows, moves and outputs, and what is wrong with them.
 use Rattle.std.proofs.Common.{◌≡◌, ℕ, ◌≤◌, List, [], ◌∷◌, length, refl, ap, subst, inl, inr, ◌⊎◌}
-use Rattle.std.proofs.Common.{arith, Some, None, Ok, Err}
+use Rattle.std.proofs.Common.{arith, false, Some, None, Ok, Err}
 use Rattle.plain_text.specs.declared.packet.Unit.TheVariants as unit
 use Rattle.plain_machine.specs.declared.plain_move.PlainMove.{PlainMove}
 use Rattle.plain_machine.specs.declared.plain_move.PlayCause.{PlayCause}
@@ -65,7 +65,7 @@ row_left = refl
 
 module _ {V : Type 0} (m : Meaning V) where
   abbrev one_thread : Setting V
-  one_thread = record { meaning = m; threads = 1; fractions = unit.Micro; packets = []; seed = 0 }
+  one_thread = record { meaning = m; threads = 1; tags = false; fractions = unit.Micro; packets = []; seed = 0 }
 
   -- of a move of a thread that there is none of nothing is made
   nothing_made : (image : Image) → (image.past ≡ []) ⊎ (image.past ≡ record { thread = 1; answer = None } ∷ [])

@@ -1,1 +1,2 @@
 pub mod PlaceLists
+pub mod InputsBehind

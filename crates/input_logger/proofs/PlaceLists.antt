@@ -12,9 +12,8 @@ use Rattle.std.proofs.lemmas.Nat.{mod_below}
 use Rattle.packet_headers.specs.declared.flow.Flow.{Flow}
 use Rattle.packet_headers.specs.declared.flow.NotFlow.{NotFlow}
 use Rattle.packet_headers.specs.Steering.{steering_sum}
-use Rattle.packet_headers.specs.View.{viewed}
 use Rattle.plain_text.specs.declared.packet.Packet.{Packet}
-use Rattle.input_logger.specs.Inputs.{Fed, thread_of_view, thread_of, inputs_of, input_at}
+use Rattle.input_logger.specs.Inputs.{Fed, view_of, thread_of_view, thread_of, inputs_of, input_at}
 use Rattle.input_logger.specs.Places.{ArePlacesOf, IsIndexed}
 
 -- what is found in a list is found in a longer one
@@ -52,22 +51,22 @@ other_number : (m n : ℕ) → n ≢ m → (m == n) ≡ false
 other_number m n other = grind (arith, nat_tests)
 
 -- the inputs of the packet's own thread, and of another
-pub own_inputs : (log : Fed) (packet : Packet) (thread : ℕ) → thread ≡ thread_of packet log.threads
+pub own_inputs : (log : Fed) (packet : Packet) (thread : ℕ) → thread ≡ thread_of log.tags packet log.threads
     → inputs_of (with_packet log packet) thread ≡ inputs_of log thread ++ packet ∷ []
 own_inputs log packet thread own =
-    filter-append (λ p. thread_of p log.threads == thread) log.packets (packet ∷ [])
+    filter-append (λ p. thread_of log.tags p log.threads == thread) log.packets (packet ∷ [])
     ∙ ap (λ (b : Bool). inputs_of log thread ++ cond b (packet ∷ []) [])
-    (same_number (thread_of packet log.threads) thread own)
+    (same_number (thread_of log.tags packet log.threads) thread own)
 
-pub other_inputs : (log : Fed) (packet : Packet) (thread : ℕ) → thread ≢ thread_of packet log.threads
+pub other_inputs : (log : Fed) (packet : Packet) (thread : ℕ) → thread ≢ thread_of log.tags packet log.threads
     → inputs_of (with_packet log packet) thread ≡ inputs_of log thread
 other_inputs log packet thread other =
-    filter-append (λ p. thread_of p log.threads == thread) log.packets (packet ∷ [])
+    filter-append (λ p. thread_of log.tags p log.threads == thread) log.packets (packet ∷ [])
     ∙ ap (λ (b : Bool). inputs_of log thread ++ cond b (packet ∷ []) [])
-    (other_number (thread_of packet log.threads) thread other)
+    (other_number (thread_of log.tags packet log.threads) thread other)
     ∙ append-nil (inputs_of log thread)
 
-own_places : (log : Fed) (packet : Packet) (thread : ℕ) (list : List ℕ) → thread ≡ thread_of packet log.threads
+own_places : (log : Fed) (packet : Packet) (thread : ℕ) (list : List ℕ) → thread ≡ thread_of log.tags packet log.threads
     → ArePlacesOf log thread list → ArePlacesOf (with_packet log packet) thread (list ++ length log.packets ∷ [])
 own_places log packet thread list own places =
     let earlier = grown log.packets (packet ∷ []) list (inputs_of log thread) places in
@@ -80,7 +79,8 @@ own_places log packet thread list own places =
     ∙ sym (map-append Some (inputs_of log thread) (packet ∷ []))
     ∙ ap (λ (inputs : List Packet). map Some inputs) (sym (own_inputs log packet thread own))
 
-other_places : (log : Fed) (packet : Packet) (thread : ℕ) (list : List ℕ) → thread ≢ thread_of packet log.threads
+other_places : (log : Fed) (packet : Packet) (thread : ℕ) (list : List ℕ)
+    → thread ≢ thread_of log.tags packet log.threads
     → ArePlacesOf log thread list → ArePlacesOf (with_packet log packet) thread list
 other_places log packet thread list other places =
     grown log.packets (packet ∷ []) list (inputs_of log thread) places
@@ -101,7 +101,7 @@ slice_get-set_other (z ∷ zs) (suc k) (suc j) x other = slice_get-set_other zs 
 
 -- the index after a packet: its place was added to its thread's list
 found_places : (log : Fed) (lists : List (List ℕ)) (packet : Packet) (thread : ℕ) (list : List ℕ) → IsIndexed log lists
-    → thread ≡ thread_of packet log.threads → slice_get lists thread ≡ Some list
+    → thread ≡ thread_of log.tags packet log.threads → slice_get lists thread ≡ Some list
     → (t : ℕ) (found_list : List ℕ) → slice_get (set lists thread (list ++ length log.packets ∷ [])) t ≡ Some found_list
     → (t ≡ thread) ⊎ (t ≡ thread → ⊥) → ArePlacesOf (with_packet log packet) t found_list
 found_places log lists packet thread list indexed own before t found_list found (inl same) =
@@ -116,7 +116,7 @@ found_places log lists packet thread list indexed own before t found_list found 
     (sym (slice_get-set_other lists thread t (list ++ length log.packets ∷ []) other) ∙ found))
 
 pub fed_is_indexed : (log : Fed) (lists : List (List ℕ)) (packet : Packet) (thread : ℕ) (list : List ℕ)
-    → IsIndexed log lists → thread ≡ thread_of packet log.threads → thread < length lists
+    → IsIndexed log lists → thread ≡ thread_of log.tags packet log.threads → thread < length lists
     → list ≡ get_or lists thread list
     → IsIndexed (with_packet log packet) (set lists thread (list ++ length log.packets ∷ []))
 fed_is_indexed log lists packet thread list indexed own in_lists there = record {
@@ -148,15 +148,15 @@ pub thread_of_view-lt : (seen : Result Flow NotFlow) (threads : ℕ) → 1 ≤ t
 thread_of_view-lt (Ok flow) threads some = mod_below (steering_sum flow) threads some
 thread_of_view-lt (Err answer) threads some = some
 
-no_inputs : (packets : List Packet) (threads thread : ℕ) → 1 ≤ threads → threads ≤ thread
-    → filter (λ packet. thread_of packet threads == thread) packets ≡ []
-no_inputs [] threads thread some beyond = refl
-no_inputs (p ∷ packets) threads thread some beyond =
-    let below = thread_of_view-lt (viewed p.bytes p.original) threads some in
-    let fails = other_number (thread_of p threads) thread (λ e. omega arith) in
-    ap (λ (b : Bool). cond b (p ∷ filter (λ packet. thread_of packet threads == thread) packets)
-    (filter (λ packet. thread_of packet threads == thread) packets)) fails
-    ∙ no_inputs packets threads thread some beyond
+no_inputs : (tags : Bool) (packets : List Packet) (threads thread : ℕ) → 1 ≤ threads → threads ≤ thread
+    → filter (λ packet. thread_of tags packet threads == thread) packets ≡ []
+no_inputs tags [] threads thread some beyond = refl
+no_inputs tags (p ∷ packets) threads thread some beyond =
+    let below = thread_of_view-lt (view_of tags p) threads some in
+    let fails = other_number (thread_of tags p threads) thread (λ e. omega arith) in
+    ap (λ (b : Bool). cond b (p ∷ filter (λ packet. thread_of tags packet threads == thread) packets)
+    (filter (λ packet. thread_of tags packet threads == thread) packets)) fails
+    ∙ no_inputs tags packets threads thread some beyond
 
 past : {X : Type 0} (xs : List X) (k : ℕ) → slice_get xs k ≡ None → length xs ≤ k
 past [] k none = omega arith
@@ -179,7 +179,7 @@ no_input_beyond log lists thread (suc earlier) indexed beyond =
     let far = past lists thread beyond in
     let one_each = indexed.one_each in
     sym (ap (λ (inputs : List Packet). slice_get inputs earlier)
-    (no_inputs log.packets log.threads thread indexed.some_thread (omega arith)))
+    (no_inputs log.tags log.packets log.threads thread indexed.some_thread (omega arith)))
 
 -- no list, so no such thread
 pub finds_no_thread : (log : Fed) (lists shown : List (List ℕ)) (thread k : ℕ) → IsIndexed log lists → shown ≡ lists
@@ -222,10 +222,10 @@ finds_input log lists shown thread k earlier place list list_shown indexed same 
 
 -- ---- an empty log
 
-pub new_is_indexed : (threads : ℕ) (lists : List (List ℕ)) → 1 ≤ threads → threads ≤ 16 → length lists ≡ threads
-    → ((k : ℕ) (list : List ℕ) → slice_get lists k ≡ Some list → list ≡ [])
-    → IsIndexed (record { threads = threads; packets = [] }) lists
-new_is_indexed threads lists some few one_each empty = record {
+pub new_is_indexed : (threads : ℕ) (tags : Bool) (lists : List (List ℕ)) → 1 ≤ threads → threads ≤ 16
+    → length lists ≡ threads → ((k : ℕ) (list : List ℕ) → slice_get lists k ≡ Some list → list ≡ [])
+    → IsIndexed (record { threads = threads; tags = tags; packets = [] }) lists
+new_is_indexed threads tags lists some few one_each empty = record {
   some_thread = some;
   few_threads = few;
   one_each = one_each;
@@ -240,4 +240,5 @@ found_has P xs k x all at = subst P (get_or_from_slice_get xs k x x at) (all k x
 pub input_has : (P : Packet → Type 0) (fed : Fed) (t k : ℕ) (p : Packet) → All P fed.packets
     → slice_get (inputs_of fed t) k ≡ Some p → P p
 input_has P fed t k p all =
-    found_has P (inputs_of fed t) k p (All-filter (λ packet. thread_of packet fed.threads == t) P fed.packets all)
+    found_has P (inputs_of fed t) k p
+    (All-filter (λ packet. thread_of fed.tags packet fed.threads == t) P fed.packets all)

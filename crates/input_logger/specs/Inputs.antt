@@ -1,23 +1,29 @@
 -- The inputs of each thread: of the fed packets, those that are steered to it.
 use Rattle.std.specs.Prelude.{ℕ, suc, zero, ◌%◌, ◌==◌, List, [], ◌∷◌, ◌++◌, filter, slice_get, Option, None, Result, Ok}
-use Rattle.std.specs.Prelude.{Err}
+use Rattle.std.specs.Prelude.{Err, Bool}
 use Rattle.plain_text.specs.declared.packet.Packet.{Packet}
 use Rattle.packet_headers.specs.declared.flow.Flow.{Flow}
 use Rattle.packet_headers.specs.declared.flow.NotFlow.{NotFlow}
 use Rattle.packet_headers.specs.Steering.{steering_sum}
 use Rattle.packet_headers.specs.View.{viewed}
+use Rattle.tagged_frames.specs.Tags.{behind_tag}
 
 -- a flow goes to the thread that its sum leaves, and all else to thread 0
 abbrev pub thread_of_view : Result Flow NotFlow → ℕ → ℕ
 thread_of_view (Ok flow) threads = steering_sum flow % threads
 thread_of_view (Err answer) threads = 0
 
-abbrev pub thread_of : Packet → ℕ → ℕ
-thread_of packet threads = thread_of_view (viewed packet.bytes packet.original) threads
+-- what a packet is seen as, behind a tag where one is looked through
+abbrev pub view_of : Bool → Packet → Result Flow NotFlow
+view_of tags packet = viewed (behind_tag tags packet).bytes (behind_tag tags packet).original
 
--- what was fed to this number of threads, in order
+abbrev pub thread_of : Bool → Packet → ℕ → ℕ
+thread_of tags packet threads = thread_of_view (view_of tags packet) threads
+
+-- what was fed to this number of threads, in order, and whether one tag is looked through
 pub record Fed : Type 0 where
   pub threads : ℕ
+  pub tags : Bool
   pub packets : List Packet
 
 -- the log with one more packet
@@ -25,7 +31,7 @@ abbrev pub with_packet : Fed → Packet → Fed
 with_packet log packet = record log { packets = log.packets ++ packet ∷ [] }
 
 abbrev pub inputs_of : Fed → ℕ → List Packet
-inputs_of log thread = filter (λ packet. thread_of packet log.threads == thread) log.packets
+inputs_of log thread = filter (λ packet. thread_of log.tags packet log.threads == thread) log.packets
 
 -- input k of a thread, from 1
 abbrev pub input_at : Fed → ℕ → ℕ → Option Packet

@@ -5,6 +5,6 @@ mod laws;
 mod log;
 mod steering;
 
-pub use laws::both_directions_have_one_thread;
+pub use laws::{both_directions_have_one_thread, inputs_stand_behind_tags};
 pub use log::InputLog;
 pub use steering::steer;

@@ -12,6 +12,7 @@ use std::marker::Model;
 #[derive(Drop)]
 pub struct InputLog {
     threads: u32,
+    tags: bool,
     packets: Packets,
     places: Vec<Sequence<usize>>,
 }
@@ -22,18 +23,20 @@ impl Model for InputLog {
 
     ghost Value = { Fed };
 
-    ghost view = { λ log. record { threads = log.threads; packets = log.packets } };
+    ghost view = { λ log. record { threads = log.threads; tags = log.tags; packets = log.packets } };
 
     ghost invariant = { λ log.
-        IsIndexed (record { threads = log.threads; packets = log.packets }) log.places.items };
+        IsIndexed (record { threads = log.threads; tags = log.tags; packets = log.packets })
+        log.places.items };
 }
 
 impl InputLog {
-    /// An empty log for 1 to 16 threads.
-    pub fn new(alloc: Global, threads: u32) -> Result<Self, NoMemory>
+    /// An empty log for 1 to 16 threads; `tags` says whether one tag is looked through.
+    pub fn new(alloc: Global, threads: u32, tags: bool) -> Result<Self, NoMemory>
         requires some { 1 ≤ threads }
         requires few { threads ≤ 16 }
-        ensures { IfOk result (λ log. log ≡ record { threads = threads; packets = [] }) }
+        ensures { IfOk result
+            (λ log. log ≡ record { threads = threads; tags = tags; packets = [] }) }
     {
         let mut places = Vec::new(alloc);
         for _ in 0..threads {
@@ -41,6 +44,7 @@ impl InputLog {
         }
         Ok(InputLog {
             threads,
+            tags,
             packets: Packets::new(alloc),
             places,
         })
@@ -49,12 +53,13 @@ impl InputLog {
     /// Takes the next packet, and answers whose input it is: the thread, and which of its inputs, from 1.
     pub fn feed(&mut self, packet: Packet) -> Result<(u32, u64), NoMemory>
         ensures ok { OnOk result (self.new ≡ with_packet self.old packet) }
-        ensures thread { IfOk result (λ input. input.0 ≡ thread_of packet self.old.threads) }
+        ensures thread { IfOk result (λ input. input.0
+            ≡ thread_of self.old.tags packet self.old.threads) }
         ensures below { IfOk result (λ input. input.0 < self.old.threads) }
         ensures number { IfOk result (λ input. input.1 ≡ length (inputs_of self.old input.0) + 1) }
         ensures err { OnErr result (self.new ≡ self.old) }
     {
-        let thread = steer(&packet, self.threads);
+        let thread = steer(&packet, self.threads, self.tags);
         let place = self.packets.len();
         let places = &mut self.places[thread as usize];
         let earlier = places.len();
@@ -82,6 +87,13 @@ impl InputLog {
         ensures { result ≡ length self.now.packets }
     {
         self.packets.len() as u64
+    }
+
+    /// Whether one tag is looked through.
+    pub fn tags(&self) -> bool
+        ensures { result ≡ self.now.tags }
+    {
+        self.tags
     }
 
     /// The number of threads, 1 to 16.

@@ -11,5 +11,6 @@ use Rattle.recovery_world.specs.World.{Setting, all_inputs}
 pub inputs_have_bytes : {V : Type 0} (s : Setting V) → All IsOfBytes s.packets → HaveBytes (all_inputs s)
 inputs_have_bytes s all t k p e =
     let inputs = all_inputs s t in
-    let kept : All IsOfBytes inputs = All-filter (λ packet. thread_of packet s.threads == t) IsOfBytes s.packets all in
+    let kept : All IsOfBytes inputs =
+    All-filter (λ packet. thread_of s.tags packet s.threads == t) IsOfBytes s.packets all in
     subst IsOfBytes (get_or_from_slice_get inputs k p p e) (kept k p (slice_get_within inputs k p e))

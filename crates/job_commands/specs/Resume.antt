@@ -3,7 +3,7 @@
 -- The files are judged in the order box, capture, handover, script: the first that is not accepted decides the status,
 -- by its first fault, the limit that it passes, or, in a healthy world, that it is not there. Of a handover its lines
 -- are judged, and then, before the script, whether a system of the box can go on from its image.
-use Rattle.std.specs.Prelude.{◌≡◌, ◌⊎◌, ℕ, List, [], Result, Ok, Err}
+use Rattle.std.specs.Prelude.{◌≡◌, ◌⊎◌, ℕ, false, List, [], Result, Ok, Err}
 use Rattle.plain_text.specs.declared.fault.LineCause.{LineCause}
 use Rattle.plain_text.specs.declared.fault.LineFault.{LineFault}
 use Rattle.plain_text.specs.declared.limit.Limit.{Limit}
@@ -45,6 +45,7 @@ pub record AcceptsResumeSource (names : ResumeNames) (source : ResumeSource) (sh
 abbrev pub resumed_run : ResumeSource → List Event → ScriptRun
 resumed_run source events = record {
   threads = source.conf.threads;
+  tags = false;
   seed = source.conf.seed;
   unit = source.capture.unit;
   packets = source.capture.packets;

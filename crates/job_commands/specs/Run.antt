@@ -1,5 +1,5 @@
 -- What the command `run` does: a run of the script that the inputs ask for.
-use Rattle.std.specs.Prelude.{◌⊎◌, ℕ, List}
+use Rattle.std.specs.Prelude.{◌⊎◌, ℕ, false, List}
 use Rattle.plain_text.specs.declared.limit.Limit.{Limit}
 use Rattle.plain_text.specs.declared.packet.Packet.{Packet}
 use Rattle.plain_machine.specs.declared.plain_move.PlainMove.{PlainMove}
@@ -23,6 +23,7 @@ pub record AcceptsInputs (names : RunNames) (inputs : Inputs) (shown : Shown) : 
 abbrev pub script_of : Inputs → ScriptRun
 script_of inputs = record {
   threads = inputs.conf.threads;
+  tags = false;
   seed = inputs.conf.seed;
   unit = inputs.capture.unit;
   packets = inputs.capture.packets;

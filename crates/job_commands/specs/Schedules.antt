@@ -2,7 +2,7 @@
 --
 -- The input files are judged one after another: the first that is not accepted decides the status. Where all are
 -- accepted, the schedule decides it, and then the released packets.
-use Rattle.std.specs.Prelude.{◌≡◌, ◌⊎◌, List, length, Result, Ok, Err, ⊤, IsErrOf}
+use Rattle.std.specs.Prelude.{◌≡◌, ◌⊎◌, false, List, length, Result, Ok, Err, ⊤, IsErrOf}
 use Rattle.plain_text.specs.declared.fault.LineFault.{LineFault}
 use Rattle.plain_machine.specs.declared.plain_move.PlainMove.{PlainMove}
 use Rattle.plain_machine.specs.declared.plain_move.PlayFault.{PlayFault}
@@ -43,6 +43,7 @@ pub record AcceptsCheckInputs (names : CheckNames) (inputs : CheckInputs) (shown
 abbrev pub schedule_of : ScheduleInputs → ScheduleRun
 schedule_of inputs = record {
   threads = inputs.conf.threads;
+  tags = false;
   unit = inputs.capture.unit;
   packets = inputs.capture.packets;
   schedule = inputs.schedule;

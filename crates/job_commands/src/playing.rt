@@ -48,6 +48,7 @@ fn play_box<W: World>(
 {
     let run = ScheduleRun {
         threads: inputs.conf.threads,
+        tags: false,
         unit: inputs.capture.unit,
         packets: inputs.capture.packets,
         schedule: inputs.schedule,

@@ -3,7 +3,7 @@
 --
 -- The files are judged in the order first box, second box, capture, script: the first that is not accepted decides the
 -- status, by its first fault, the limit that it passes, or, in a healthy world, that it is not there.
-use Rattle.std.specs.Prelude.{◌⊎◌, ℕ, List}
+use Rattle.std.specs.Prelude.{◌⊎◌, ℕ, false, List}
 use Rattle.plain_text.specs.declared.limit.Limit.{Limit}
 use Rattle.plain_text.specs.declared.packet.Packet.{Packet}
 use Rattle.plain_machine.specs.declared.plain_move.PlainMove.{PlainMove}
@@ -24,8 +24,16 @@ use Rattle.job_commands.specs.ChainWords.{ChainNames}
 -- the chain that inputs ask for
 abbrev pub chain_of : ChainInputs → ChainRun
 chain_of inputs = record {
-  first = record { threads = inputs.source.boxes.first.threads; seed = inputs.source.boxes.first.seed };
-  second = record { threads = inputs.source.boxes.second.threads; seed = inputs.source.boxes.second.seed };
+  first = record {
+    threads = inputs.source.boxes.first.threads;
+    tags = false;
+    seed = inputs.source.boxes.first.seed;
+  };
+  second = record {
+    threads = inputs.source.boxes.second.threads;
+    tags = false;
+    seed = inputs.source.boxes.second.seed;
+  };
   unit = inputs.source.capture.unit;
   packets = inputs.source.capture.packets;
   events = inputs.events;

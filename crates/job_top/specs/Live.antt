@@ -1,5 +1,5 @@
 -- What the command `live` does: a run by the plan that the inputs ask for.
-use Rattle.std.specs.Prelude.{◌≡◌, ◌⊎◌, ℕ, List, [], ◌∷◌, ◌++◌, length}
+use Rattle.std.specs.Prelude.{◌≡◌, ◌⊎◌, ℕ, false, List, [], ◌∷◌, ◌++◌, length}
 use Rattle.plain_text.specs.declared.limit.Limit.{Limit}
 use Rattle.plain_text.specs.declared.packet.Packet.{Packet}
 use Rattle.plain_machine.specs.declared.plain_move.PlainMove.{PlainMove}
@@ -28,6 +28,7 @@ use Rattle.job_commands.specs.Words.{LiveNames}
 abbrev pub plan_of : LiveInputs → PlanRun
 plan_of inputs = record {
   threads = inputs.conf.threads;
+  tags = false;
   seed = inputs.conf.seed;
   unit = inputs.capture.unit;
   packets = inputs.capture.packets;

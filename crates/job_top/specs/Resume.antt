@@ -1,5 +1,5 @@
 -- What the command `resume` does: a new system goes on from the text of a handover, by the events of a script.
-use Rattle.std.specs.Prelude.{◌≡◌, ◌⊎◌, ◌≤◌, ℕ, All, List, ◌∷◌, ◌++◌, Result, Err, ⊤, IsErrOf}
+use Rattle.std.specs.Prelude.{◌≡◌, ◌⊎◌, ◌≤◌, ℕ, false, All, List, ◌∷◌, ◌++◌, Result, Err, ⊤, IsErrOf}
 use Rattle.plain_text.specs.Packets.{IsShort}
 use Rattle.plain_text.specs.declared.limit.Limit.{Limit}
 use Rattle.plain_machine.specs.History.{Step}
@@ -141,6 +141,7 @@ pub record CanResume (from : Resumption) : Type 0 where
 abbrev pub resumption_of : ResumeSource → Resumption
 resumption_of source = record {
   threads = source.conf.threads;
+  tags = false;
   seed = source.conf.seed;
   unit = source.capture.unit;
   packets = source.capture.packets;
@@ -152,6 +153,7 @@ abbrev pub setting_from : {V : Type 0} → Meaning V → Resumption → Setting 
 setting_from m from = record {
   meaning = m;
   threads = from.threads;
+  tags = from.tags;
   fractions = from.unit;
   packets = from.packets;
   seed = from.seed;

@@ -146,10 +146,12 @@ fn chain_boxes<W: World>(
     let run = ChainRun {
         first: SystemShape {
             threads: boxes.first.threads,
+            tags: false,
             seed: boxes.first.seed,
         },
         second: SystemShape {
             threads: boxes.second.threads,
+            tags: false,
             seed: boxes.second.seed,
         },
         unit: capture.unit,

@@ -39,6 +39,8 @@ use world_io::World;
 pub(crate) struct Resumption {
     /// The number of threads, 1 to 16.
     pub(crate) threads: u32,
+    /// Whether one tag is looked through.
+    pub(crate) tags: bool,
     /// The seed of the generator of random words.
     pub(crate) seed: u64,
     /// What the fractions of the packets count.
@@ -145,6 +147,7 @@ fn resume_box<P: Program, W: World>(
         alloc,
         program,
         from.threads,
+        from.tags,
         from.seed,
         from.unit,
         from.packets,
@@ -186,6 +189,7 @@ fn resume_kinds<W: World>(
     let conf = source.conf;
     let from = Resumption {
         threads: conf.threads,
+        tags: false,
         seed: conf.seed,
         unit: source.capture.unit,
         packets: source.capture.packets,

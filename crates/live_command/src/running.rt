@@ -174,7 +174,15 @@ pub fn run_plan<
     let alloc = rt.alloc();
     let draws = Draws::new(alloc, run.seed, run.threads)?;
     let threads = run.threads;
-    let system = System::new(alloc, program, threads, run.seed, run.unit, run.packets)?;
+    let system = System::new(
+        alloc,
+        program,
+        threads,
+        run.tags,
+        run.seed,
+        run.unit,
+        run.packets,
+    )?;
     let files = match open_live(world, files, run.unit) {
         Ok(files) => files,
         Err(error) => {

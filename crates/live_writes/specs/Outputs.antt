@@ -31,6 +31,7 @@ abbrev pub setting_of : {V : Type 0} → Meaning V → PlanRun → Setting V
 setting_of m run = record {
   meaning = m;
   threads = run.threads;
+  tags = run.tags;
   fractions = run.unit;
   packets = run.packets;
   seed = run.seed;

@@ -37,7 +37,7 @@ window (suc i) j (x ∷ xs) ys low = window i j xs ys (omega (arith, low))
 pub same_inputs : {V : Type 0} (s : Setting V) (more : List Packet) (n : ℕ) → n ≤ length s.packets
     → inputs_fed (with_more s more) n ≡ inputs_fed s n
 same_inputs s more n low =
-    ap (λ (l : List Packet). λ (t : ℕ). inputs_of (record { threads = s.threads; packets = l }) t)
+    ap (λ (l : List Packet). λ (t : ℕ). inputs_of (record { threads = s.threads; tags = s.tags; packets = l }) t)
     (take-append-le n s.packets more low)
 
 module _ {V : Type 0} (s : Setting V) (w : World V) (more : List Packet) where

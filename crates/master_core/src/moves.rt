@@ -23,7 +23,7 @@ pub fn take<P: Program>(program: &P, part: &mut ThreadPart, packet: &Packet) -> 
     ensures part { part.new ≡ after_take part.old ((P.meaning program.now).begin packet.now) }
 {
     part.counts.taken += 1;
-    part.hand = Some(program.begin(packet));
+    part.hand = Some(program.begin(packet.bytes.as_slice(), packet.original));
     part.counts.taken
 }
 
@@ -134,7 +134,8 @@ pub fn emit<P: Program>(
         ≡ after_emit part.old ((P.meaning program.now).emitted place)) }
     ensures part_stays { OnErr result (part.new ≡ part.old) }
 {
-    let bytes = program.packet_out(alloc, packet, &place)?;
+    let frame = packet.bytes.as_slice();
+    let bytes = program.packet_out(alloc, frame, packet.original, &place)?;
     program.emitted(&mut place);
     part.counts.outputs += 1;
     part.hand = Some(place);

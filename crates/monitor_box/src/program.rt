@@ -5,7 +5,7 @@ use crate::showing::text_of_totals;
 use crate::{FlowKey, FlowTable, MonitorBox, MonitorValue, Totals};
 use box_program::{Local, Move, Program};
 use packet_headers::{steering_sum, view};
-use plain_text::{Bytes, NoMemory, Packet, Text};
+use plain_text::{Bytes, NoMemory, Text};
 use std::alloc::Global;
 
 /// The places of the program: the flow's table is next; the totals are next, for a flow's packet or for another; the
@@ -45,8 +45,8 @@ impl Program for MonitorBox {
         }
     }
 
-    fn begin(&self, packet: &Packet) -> Local {
-        let Ok(flow) = view(packet.bytes.as_slice(), packet.original) else {
+    fn begin(&self, frame: &[u8], original: u32) -> Local {
+        let Ok(flow) = view(frame, original) else {
             return Local {
                 at: ADDS_OTHER,
                 regs: [0; 12],
@@ -61,7 +61,7 @@ impl Program for MonitorBox {
                 u64::from(flow.source_port),
                 u64::from(flow.dest),
                 u64::from(flow.dest_port),
-                u64::from(packet.original),
+                u64::from(original),
                 0,
                 0,
                 0,
@@ -115,10 +115,11 @@ impl Program for MonitorBox {
     fn packet_out(
         &self,
         alloc: Global,
-        packet: &Packet,
+        frame: &[u8],
+        _original: u32,
         _local: &Local,
     ) -> Result<Bytes, NoMemory> {
-        Bytes::of(alloc, packet.bytes.as_slice())
+        Bytes::of(alloc, frame)
     }
 
     fn copy_value(

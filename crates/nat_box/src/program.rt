@@ -3,7 +3,7 @@ ghost use Rattle.std.specs.Prelude.{◌≡◌};
 use crate::{Goes, NatBox, NatValue, Noted, Place};
 use box_program::{Local, Move, Program};
 use flow_boxes::Drops;
-use plain_text::{Bytes, NoMemory, Packet, Text};
+use plain_text::{Bytes, NoMemory, Text};
 use std::alloc::Global;
 
 impl Program for NatBox {
@@ -35,9 +35,8 @@ impl Program for NatBox {
         }
     }
 
-    fn begin(&self, packet: &Packet) -> Local {
-        self.begun(self.seen(packet.bytes.as_slice(), packet.original))
-            .local()
+    fn begin(&self, frame: &[u8], original: u32) -> Local {
+        self.begun(self.seen(frame, original)).local()
     }
 
     fn next(&self, local: &Local) -> Move {
@@ -105,14 +104,15 @@ impl Program for NatBox {
         *local = Goes::to(Place::Ends, Noted::read_from(local)).local();
     }
 
-    fn packet_out(&self, alloc: Global, packet: &Packet, local: &Local) -> Result<Bytes, NoMemory> {
-        let seen = self.seen(packet.bytes.as_slice(), packet.original);
-        self.sent(
-            alloc,
-            packet.bytes.as_slice(),
-            seen,
-            &Noted::read_from(local),
-        )
+    fn packet_out(
+        &self,
+        alloc: Global,
+        frame: &[u8],
+        original: u32,
+        local: &Local,
+    ) -> Result<Bytes, NoMemory> {
+        let seen = self.seen(frame, original);
+        self.sent(alloc, frame, seen, &Noted::read_from(local))
     }
 
     fn copy_value(

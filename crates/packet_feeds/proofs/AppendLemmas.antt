@@ -27,7 +27,7 @@ stands_behind m p y s w st = record {
     fractions = st.inputs.fractions;
     inputs =
         st.inputs.inputs
-        ∙ ap (λ (l : List Packet). record { threads = s.threads; packets = l })
+        ∙ ap (λ (l : List Packet). record { threads = s.threads; tags = s.tags; packets = l })
         (sym (take-append-le w.fed s.packets (p ∷ []) st.sound.firm.fed));
     left =
         ap (λ (l : List Packet). l ++ p ∷ []) st.inputs.left

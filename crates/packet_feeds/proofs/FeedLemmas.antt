@@ -229,9 +229,8 @@ feed_moves {P} {V} m n k old new is few = (
       meaning = st.inputs.meaning;
       fractions = st.inputs.fractions;
       inputs =
-          ap (λ (t : ℕ). record { threads = t; packets = old.inputs.packets ++ take k old.left })
-          (ap (λ (f : Fed). f.threads) st.inputs.inputs)
-          ∙ ap (λ (l : List Packet). record { threads = s.threads; packets = l }) (first s w st);
+          ap (λ (f : Fed). record f { packets = old.inputs.packets ++ take k old.left }) st.inputs.inputs
+          ∙ ap (λ (l : List Packet). record { threads = s.threads; tags = s.tags; packets = l }) (first s w st);
       left = rest s w st;
       clock = refl;
       generator = st.inputs.generator;

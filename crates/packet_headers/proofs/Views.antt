@@ -20,7 +20,8 @@ pub record ReadsAlike (new old : List ℕ) : Type 0 where
   pub late : (k : ℕ) → header_end old + 8 ≤ k → k < header_end old + 16 → get_or new k 0 ≡ get_or old k 0
 
 -- fail the same tests
-pub same_failures : (new old : List ℕ) (original : ℕ) → ReadsAlike new old → failures new original ≡ failures old original
+pub same_failures : (new old : List ℕ) (original : ℕ) → ReadsAlike new old
+    → failures new original ≡ failures old original
 same_failures new old original alike =
     let lengths = alike.lengths in
     let b12 = alike.early 12 (omega arith) in

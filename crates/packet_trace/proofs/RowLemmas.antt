@@ -119,7 +119,7 @@ module _ {V : Type 0} (s : Setting V) (w : World V) (sound : Sound s w) where
         ap (became_noted inputs t) (e ∙ add-one n)
         ∙ ((begot.each t low).each n ∙ ap (became register steps t) (sym e))
 
-    module _ (turns : List (ℕ × ℕ)) (steered : AreTurns s.threads s.packets turns) (rows : List Row)
+    module _ (turns : List (ℕ × ℕ)) (steered : AreTurns s.threads s.tags s.packets turns) (rows : List Row)
         (filled : AreFilled departures seen.places.items seen.lacks.items inputs (take w.fed turns) rows) where
       found_in : {A : Type 0} (n : ℕ) (xs : List A) (i : ℕ) (x : A) → slice_get (take n xs) i ≡ Some x
           → slice_get xs i ≡ Some x
@@ -154,14 +154,14 @@ module _ {V : Type 0} (s : Setting V) (w : World V) (sound : Sound s w) where
           there : (p : Packet) × (slice_get s.packets i ≡ Some p)
           there = packet_there i (slice_get_within turns i turn at)
 
-          turn_is : turn ≡ turn_of s.threads s.packets i there.0
-          turn_is = let both : Some turn ≡ Some (turn_of s.threads s.packets i there.0) =
+          turn_is : turn ≡ turn_of s.threads s.tags s.packets i there.0
+          turn_is = let both : Some turn ≡ Some (turn_of s.threads s.tags s.packets i there.0) =
               sym at ∙ steered.each i there.0 there.1 in cc
 
-          thread : turn.0 ≡ thread_of there.0 s.threads
+          thread : turn.0 ≡ thread_of s.tags there.0 s.threads
           thread = ap (λ (x : ℕ × ℕ). x.0) turn_is
 
-          number : turn.1 ≡ length (inputs_fed s i (thread_of there.0 s.threads)) + 1
+          number : turn.1 ≡ length (inputs_fed s i (thread_of s.tags there.0 s.threads)) + 1
           number = ap (λ (x : ℕ × ℕ). x.1) turn_is
 
           low : row.thread < s.threads
@@ -176,7 +176,7 @@ module _ {V : Type 0} (s : Setting V) (w : World V) (sound : Sound s w) where
               ∙ (ap (λ (k : ℕ). fate_from seen.places.items seen.lacks.items row.thread
               (became_noted inputs row.thread k)) (sym h.input)
               ∙ ap (fate_from seen.places.items seen.lacks.items row.thread)
-              (became_is row.thread row.input (length (inputs_fed s i (thread_of there.0 s.threads))) low
+              (became_is row.thread row.input (length (inputs_fed s i (thread_of s.tags there.0 s.threads))) low
               (h.input ∙ number))))
 
       taken_alike : {A B : Type 0} (n : ℕ) (xs : List A) (ys : List B) → length xs ≡ length ys

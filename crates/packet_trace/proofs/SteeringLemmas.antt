@@ -1,6 +1,6 @@
 -- Packets are steered, one more.
-use Rattle.std.proofs.Common.{◌≡◌, ◌⊎◌, inl, inr, ℕ, zero, suc, ◌+◌, ◌<◌, ◌≤◌, List, [], ◌∷◌, ◌++◌, length, take, refl}
-use Rattle.std.proofs.Common.{sym}
+use Rattle.std.proofs.Common.{◌≡◌, ◌⊎◌, inl, inr, ℕ, Bool, zero, suc, ◌+◌, ◌<◌, ◌≤◌, List, [], ◌∷◌, ◌++◌, length, take}
+use Rattle.std.proofs.Common.{refl, sym}
 use Rattle.std.proofs.Common.{ap, ◌∙◌, subst, arith, Some, None, length-append}
 use Rattle.std.specs.Prelude.{slice_get}
 use Rattle.plain_text.specs.declared.packet.Packet.{Packet}
@@ -30,40 +30,41 @@ take_whole : {A : Type 0} (xs : List A) → take (length xs) xs ≡ xs
 take_whole [] = refl
 take_whole (x ∷ xs) = ap (λ l. x ∷ l) (take_whole xs)
 
-pub none_steered : (threads : ℕ) → AreTurns threads [] []
-none_steered threads = record {
+pub none_steered : (threads : ℕ) (tags : Bool) → AreTurns threads tags [] []
+none_steered threads tags = record {
   long = refl;
   each = λ i packet e. absurd (let bad : None ≡ Some packet = e in cc);
   below = λ i turn e. absurd (let bad : None ≡ Some turn = e in cc);
 }
 
-module _ (threads : ℕ) (packets : List Packet) (turns : List (ℕ × ℕ)) (h : AreTurns threads packets turns)
-    (packet : Packet) (turn : ℕ × ℕ) (thread : turn.0 ≡ thread_of packet threads) (low : turn.0 < threads)
-    (number : turn.1 ≡ length (inputs_of (record { threads = threads; packets = packets }) turn.0) + 1) where
-  log_of_first : List Packet → Fed
-  log_of_first l = record { threads = threads; packets = l }
+module _ (threads : ℕ) (tags : Bool) (packets : List Packet) (turns : List (ℕ × ℕ))
+    (h : AreTurns threads tags packets turns) (packet : Packet) (turn : ℕ × ℕ)
+    (thread : turn.0 ≡ thread_of tags packet threads) (low : turn.0 < threads)
+    (number : turn.1
+    ≡ length (inputs_of (record { threads = threads; tags = tags; packets = packets }) turn.0) + 1) where
+  abbrev log_of_first : List Packet → Fed
+  log_of_first l = record { threads = threads; tags = tags; packets = l }
 
   -- of the last packet
-  last : turn ≡ turn_of threads (packets ++ packet ∷ []) (length packets) packet
+  last : turn ≡ turn_of threads tags (packets ++ packet ∷ []) (length packets) packet
   last =
       ap (λ (n : ℕ). (turn.0, n)) (number
-      ∙ ap (λ (l : List Packet). length (inputs_of (record { threads = threads; packets = l }) turn.0) + 1)
+      ∙ ap (λ (l : List Packet). length (inputs_of (log_of_first l) turn.0) + 1)
       (sym (take_short packets (packet ∷ []) (length packets) (omega arith) ∙ take_whole packets)))
       ∙ ap (λ (t : ℕ). (
         t,
-        length (inputs_of (record { threads = threads; packets = take (length packets) (packets ++ packet ∷ []) }) t)
-            + 1,
+        length (inputs_of (log_of_first (take (length packets) (packets ++ packet ∷ []))) t) + 1,
       )) thread
 
   -- of an earlier one
   earlier : (i : ℕ) (p : Packet) → i < length packets
-      → turn_of threads packets i p ≡ turn_of threads (packets ++ packet ∷ []) i p
+      → turn_of threads tags packets i p ≡ turn_of threads tags (packets ++ packet ∷ []) i p
   earlier i p under = ap (λ (l : List Packet). (
-    thread_of p threads,
-    length (inputs_of (record { threads = threads; packets = l }) (thread_of p threads)) + 1,
+    thread_of tags p threads,
+    length (inputs_of (log_of_first l) (thread_of tags p threads)) + 1,
   )) (sym (take_short packets (packet ∷ []) i (omega (arith, under))))
 
-  pub steered_on : AreTurns threads (packets ++ packet ∷ []) (turns ++ turn ∷ [])
+  pub steered_on : AreTurns threads tags (packets ++ packet ∷ []) (turns ++ turn ∷ [])
   steered_on = record {
     long = let a = length-append turns (turn ∷ []) in let b = length-append packets (packet ∷ []) in
         let c = h.long in omega (arith, a, b, c);
@@ -73,16 +74,16 @@ module _ (threads : ℕ) (packets : List Packet) (turns : List (ℕ × ℕ)) (h 
     where
       at : (i : ℕ) (p : Packet) → ((i < length packets) × (slice_get packets i ≡ Some p))
           ⊎ ((i ≡ length packets) × (packet ≡ p))
-          → slice_get (turns ++ turn ∷ []) i ≡ Some (turn_of threads (packets ++ packet ∷ []) i p)
+          → slice_get (turns ++ turn ∷ []) i ≡ Some (turn_of threads tags (packets ++ packet ∷ []) i p)
       at i p (inl (low, e)) =
-          slice_get-append turns (turn ∷ []) i (turn_of threads packets i p) (h.each i p e)
+          slice_get-append turns (turn ∷ []) i (turn_of threads tags packets i p) (h.each i p e)
           ∙ ap Some (earlier i p low)
       at i p (inr (e, same)) =
           ap (slice_get (turns ++ turn ∷ [])) (e ∙ sym h.long)
           ∙ (slice_get_last turns turn
           ∙ ap Some (last
-          ∙ (ap (λ (n : ℕ). turn_of threads (packets ++ packet ∷ []) n packet) (sym e)
-          ∙ ap (turn_of threads (packets ++ packet ∷ []) i) same)))
+          ∙ (ap (λ (n : ℕ). turn_of threads tags (packets ++ packet ∷ []) n packet) (sym e)
+          ∙ ap (turn_of threads tags (packets ++ packet ∷ []) i) same)))
 
       under : (i : ℕ) (x : ℕ × ℕ) → ((i < length turns) × (slice_get turns i ≡ Some x))
           ⊎ ((i ≡ length turns) × (turn ≡ x)) → x.0 < threads

@@ -48,9 +48,9 @@ module _ {V : Type 0} (register : Option ℕ) (s : Setting V) (events : List Eve
       ≡ Ok h.finished.steps
   plays =
       ap (λ (log : Fed). play s.meaning (inputs_of log) log.threads gone.finished.schedule) st.inputs
-      ∙ (ap (play s.meaning (inputs_of (record { threads = s.threads; packets = s.packets })) s.threads)
+      ∙ (ap (play s.meaning (inputs_of (record { threads = s.threads; tags = s.tags; packets = s.packets })) s.threads)
       h.finished.schedule
-      ∙ moves_play s.meaning (inputs_of (record { threads = s.threads; packets = s.packets })) s.threads
+      ∙ moves_play s.meaning (inputs_of (record { threads = s.threads; tags = s.tags; packets = s.packets })) s.threads
       h.finished.steps h.finished.finish.history)
 
   line_is : counts_line gone.finished.fed gone.finished.epoch gone.finished.released ≡ done_line h.world
@@ -250,9 +250,11 @@ new_somewhere {P} {V} meaning program s y same stands =
 
 -- the packets of the run were steered
 pub steered_so : {V : Type 0} (s : Setting V) (packets : List Packet) (steered : Steered) → packets ≡ s.packets
-    → steered.inputs ≡ record { threads = s.threads; packets = packets }
-    → AreTurns s.threads packets steered.turns → IsSteered s steered
+    → steered.inputs ≡ record { threads = s.threads; tags = s.tags; packets = packets }
+    → AreTurns s.threads s.tags packets steered.turns → IsSteered s steered
 steered_so s packets steered same inputs turns = record {
-  inputs = inputs ∙ ap (λ (l : List Packet). let log : Fed = record { threads = s.threads; packets = l } in log) same;
-  turns = subst (λ (l : List Packet). AreTurns s.threads l steered.turns) same turns;
+  inputs = inputs
+      ∙ ap
+      (λ (l : List Packet). let log : Fed = record { threads = s.threads; tags = s.tags; packets = l } in log) same;
+  turns = subst (λ (l : List Packet). AreTurns s.threads s.tags l steered.turns) same turns;
 }

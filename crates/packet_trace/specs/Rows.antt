@@ -28,7 +28,7 @@ pub record IsRow {V : Type 0} (register : Option ℕ) (s : Setting V) (w : World
   pub packet : row.packet ≡ i + 1
   pub there : Packet
   pub there_is : slice_get s.packets i ≡ Some there
-  pub thread : row.thread ≡ thread_of there s.threads
+  pub thread : row.thread ≡ thread_of s.tags there s.threads
   -- one more than the packets before it that went to its thread
   pub input : row.input ≡ length (inputs_fed s i row.thread) + 1
   pub fate : IsFate w row.thread (became register steps row.thread row.input) row.fate

@@ -23,8 +23,8 @@ use Rattle.packet_trace.specs.Trace.{Traces, trace_writes, traced_events}
 
 -- all packets of the capture were steered
 pub record IsSteered {V : Type 0} (s : Setting V) (steered : Steered) : Type 0 where
-  pub inputs : steered.inputs ≡ record { threads = s.threads; packets = s.packets }
-  pub turns : AreTurns s.threads s.packets steered.turns
+  pub inputs : steered.inputs ≡ record { threads = s.threads; tags = s.tags; packets = s.packets }
+  pub turns : AreTurns s.threads s.tags s.packets steered.turns
 
 -- the texts tell of a trace of these events
 pub record IsTold {V : Type 0} (register : Option ℕ) (s : Setting V) (events : List Event) (texts : Texts)

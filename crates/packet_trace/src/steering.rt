@@ -16,15 +16,21 @@ pub struct Steered {
     pub turns: Turns,
 }
 
-/// Steers all packets of a capture to 1 to 16 threads.
-pub fn steer_all(alloc: Global, threads: u32, packets: Packets) -> Result<Steered, NoMemory>
+/// Steers all packets of a capture to 1 to 16 threads; `tags` says whether one tag is looked through.
+pub fn steer_all(
+    alloc: Global,
+    threads: u32,
+    tags: bool,
+    packets: Packets,
+) -> Result<Steered, NoMemory>
     requires some { 1 ≤ threads }
     requires few { threads ≤ 16 }
     ensures inputs { IfOk result
-        (λ steered. steered.inputs ≡ record { threads = threads; packets = packets }) }
-    ensures turns { IfOk result (λ steered. AreTurns threads packets steered.turns) }
+        (λ steered. steered.inputs
+        ≡ record { threads = threads; tags = tags; packets = packets }) }
+    ensures turns { IfOk result (λ steered. AreTurns threads tags packets steered.turns) }
 {
-    let mut inputs = InputLog::new(alloc, threads)?;
+    let mut inputs = InputLog::new(alloc, threads, tags)?;
     let mut turns = Turns::new(alloc);
     for packet in packets.into_vec() {
         let turn = inputs.feed(packet)?;

@@ -77,11 +77,19 @@ fn trace_run<P: Program>(
     ensures { IfOk result (ComesTo register (setting_of (P.meaning program.now) run) run.events) }
 {
     let packets = copy_packets(alloc, run.packets.as_slice())?;
-    let steered = steer_all(alloc, run.threads, packets)?;
+    let steered = steer_all(alloc, run.threads, run.tags, packets)?;
     let mut events = run.events;
     events.push(Event::Recover)?;
     let lent = Lent { program };
-    let system = System::new(alloc, lent, run.threads, run.seed, run.unit, run.packets)?;
+    let system = System::new(
+        alloc,
+        lent,
+        run.threads,
+        run.tags,
+        run.seed,
+        run.unit,
+        run.packets,
+    )?;
     match run_events(alloc, system, run.threads, events.as_slice()) {
         Ok(gone) => {
             let texts = put_texts(alloc, program, steered, &gone, register)?;

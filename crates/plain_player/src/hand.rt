@@ -82,7 +82,8 @@ pub fn play_hand<P: Program>(
             goes_on(Some(local))
         }
         (Move::Emit, None) => {
-            let sent = program.packet_out(alloc, packet, &local)?;
+            let frame = packet.bytes.as_slice();
+            let sent = program.packet_out(alloc, frame, packet.original, &local)?;
             program.emitted(&mut local);
             Ok(HandMove {
                 place: Some(local),

@@ -206,7 +206,7 @@ fn take_input<P: Program>(
     };
     Ok(Seat {
         taken: seat.taken + 1,
-        hand: Some(program.begin(packet)),
+        hand: Some(program.begin(packet.bytes.as_slice(), packet.original)),
         ..seat
     })
 }

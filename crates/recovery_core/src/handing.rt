@@ -45,6 +45,7 @@ impl<P: Program> System<P> {
         alloc: Global,
         program: P,
         threads: u32,
+        tags: bool,
         seed: u64,
         unit: Unit,
         packets: Packets,
@@ -56,6 +57,7 @@ impl<P: Program> System<P> {
         ensures faults { (error : ResumeErrorKind) → result ≡ Err error → IsFault (record {
           meaning = P.meaning program;
           threads = threads;
+          tags = tags;
           fractions = unit;
           packets = packets;
           seed = seed;
@@ -63,6 +65,7 @@ impl<P: Program> System<P> {
         ensures no_fault { IfOk result (λ y. HasNoFault (record {
           meaning = P.meaning program;
           threads = threads;
+          tags = tags;
           fractions = unit;
           packets = packets;
           seed = seed;
@@ -70,18 +73,21 @@ impl<P: Program> System<P> {
         ensures stands { IfOk result (λ y. (w : World P.Value) → Sound (record {
           meaning = P.meaning program;
           threads = threads;
+          tags = tags;
           fractions = unit;
           packets = packets;
           seed = seed;
         }) w → IsAtRest w → IsImageOf (record {
           meaning = P.meaning program;
           threads = threads;
+          tags = tags;
           fractions = unit;
           packets = packets;
           seed = seed;
         }) w image.now → SystemStands (P.meaning program) (record {
           meaning = P.meaning program;
           threads = threads;
+          tags = tags;
           fractions = unit;
           packets = packets;
           seed = seed;
@@ -89,12 +95,14 @@ impl<P: Program> System<P> {
         ensures some { IfOk result (λ y. (w : World P.Value) × Sound (record {
           meaning = P.meaning program;
           threads = threads;
+          tags = tags;
           fractions = unit;
           packets = packets;
           seed = seed;
         }) w × IsAtRest w × IsImageOf (record {
           meaning = P.meaning program;
           threads = threads;
+          tags = tags;
           fractions = unit;
           packets = packets;
           seed = seed;
@@ -104,7 +112,7 @@ impl<P: Program> System<P> {
         ensures handed { IfOk result (λ y. y.handed ≡ length image.now.released) }
         ensures fresh { IfOk result (λ y. y.fresh ≡ []) }
     {
-        let core = resume_parts(alloc, program, threads, seed, unit, packets, image)?;
+        let core = resume_parts(alloc, program, threads, tags, seed, unit, packets, image)?;
         Ok(System {
             core,
             stopped: false,

@@ -96,12 +96,13 @@ fn end<P: Program>(mut core: Core<P>) -> Result<Schedule, NoMemory>
 }
 
 impl<P: Program> System<P> {
-    /// A system of 1 to 16 threads on these packets, before the first event. Random words come from the generator of
-    /// the seed.
+    /// A system of 1 to 16 threads on these packets, before the first event; `tags` says whether one tag is looked
+    /// through. Random words come from the generator of the seed.
     pub fn new(
         alloc: Global,
         program: P,
         threads: u32,
+        tags: bool,
         seed: u64,
         unit: Unit,
         packets: Packets,
@@ -112,6 +113,7 @@ impl<P: Program> System<P> {
         ensures stands { IfOk result (λ y. SystemStands (P.meaning program) (record {
           meaning = P.meaning program;
           threads = threads;
+          tags = tags;
           fractions = unit;
           packets = packets;
           seed = seed;
@@ -120,7 +122,7 @@ impl<P: Program> System<P> {
         ensures runs { IfOk result (λ y. y.stopped ≡ false) }
         ensures none { IfOk result (λ y. y.handed ≡ 0) }
     {
-        let core = open_parts(alloc, program, threads, seed, unit, packets)?;
+        let core = open_parts(alloc, program, threads, tags, seed, unit, packets)?;
         Ok(System {
             core,
             stopped: false,

@@ -552,7 +552,7 @@ module _ {V : Type 0} (s : Setting V) (new : World V) (r : Rested s (length s.pa
   all_fed = let f : new.fed ≡ r.ran.fed = (both s (length s.packets) new r).fed in let e = r.fed in omega (arith, f, e)
 
   inputs_all : (t : ℕ) → inputs_fed s new.fed t ≡ all_inputs s t
-  inputs_all t = ap (λ (l : List Packet). inputs_of (record { threads = s.threads; packets = l }) t)
+  inputs_all t = ap (λ (l : List Packet). inputs_of (record { threads = s.threads; tags = s.tags; packets = l }) t)
       (take_all new.fed s.packets all_fed)
 
   all_input : (t : ℕ) → t < s.threads → slice_get (all_inputs s t) (thread_after new.past t).taken ≡ None

@@ -131,6 +131,14 @@ pub fn run_script<P: Program, W: World>(
         (names_of files.entry) run.events (W.shows p world.old) (W.shows p world.new) }
     ensures before { (p : Start) → W.honest p world.new → W.honest p world.old }
 {
-    let system = System::new(alloc, program, run.threads, run.seed, run.unit, run.packets)?;
+    let system = System::new(
+        alloc,
+        program,
+        run.threads,
+        run.tags,
+        run.seed,
+        run.unit,
+        run.packets,
+    )?;
     run_from(alloc, world, files, run.unit, run.events.as_slice(), system)
 }

@@ -143,7 +143,7 @@ module _ {V : Type 0} (s : Setting V) (w : World V) (h : Sound s w) where
       → IsHistory s.meaning (inputs_fed cut w.fed) s.threads steps
   same_inputs n steps k is =
       subst (λ (l : List Packet).
-      IsHistory s.meaning (inputs_of (record { threads = s.threads; packets = l })) s.threads steps)
+      IsHistory s.meaning (inputs_of (record { threads = s.threads; tags = s.tags; packets = l })) s.threads steps)
       (ap (λ (j : ℕ). take j s.packets) is ∙ sym (take-take w.fed w.fed s.packets (omega arith))) k
 
   kept_there : (log : List Entry) (o : Sent) → IsKept s w log o → IsKept cut w log o

@@ -15,8 +15,8 @@ use Rattle.run_end.proofs.InputLemmas.{none_part}
 -- a thread has no more inputs than were fed
 few_inputs : (fed : Fed) (t : ℕ) → length (inputs_of fed t) ≤ length fed.packets
 few_inputs fed t =
-    let e = length-filter (λ packet. thread_of packet fed.threads == t) fed.packets in
-    let k = count_by-le-length (λ packet. thread_of packet fed.threads == t) fed.packets in omega (arith, e, k)
+    let e = length-filter (λ packet. thread_of fed.tags packet fed.threads == t) fed.packets in
+    let k = count_by-le-length (λ packet. thread_of fed.tags packet fed.threads == t) fed.packets in omega (arith, e, k)
 
 pub room_there : {V : Type 0} (m : Meaning V) (fits : ℕ → V → Type 0) → IsLawful m fits → (fed : Fed) (threads : ℕ)
     (now : List (Step V)) (p : Mastered V) (t : ℕ) → IsHistory m (inputs_of fed) threads now

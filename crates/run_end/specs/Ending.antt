@@ -31,7 +31,7 @@ pub record IsEndOf {V : Type 0} (m : Meaning V) (s : Setting V) (w : World V) (f
   pub sound : Sound s w
   pub up : w.up ≡ true
   pub meaning : s.meaning ≡ m
-  pub inputs : fed ≡ record { threads = s.threads; packets = take w.fed s.packets }
+  pub inputs : fed ≡ record { threads = s.threads; tags = s.tags; packets = take w.fed s.packets }
   pub master : IsMasterAfter s.meaning s.threads w.past p schedule
   pub in_order : IsOrder s w order
   pub released : AreGreatest w.released s.threads numbers

@@ -235,8 +235,10 @@ new_stands {P} {V} meaning program s y same stands =
 
 -- all packets of the run were fed
 pub all_fed : {V : Type 0} (s : Setting V) (packets : List Packet) (inputs : Fed) → packets ≡ s.packets
-    → inputs ≡ record { threads = s.threads; packets = packets } → AreInputs s.meaning inputs s
+    → inputs ≡ record { threads = s.threads; tags = s.tags; packets = packets } → AreInputs s.meaning inputs s
 all_fed s packets inputs same is = record {
   meaning = refl;
-  inputs_are = is ∙ ap (λ (l : List Packet). let log : Fed = record { threads = s.threads; packets = l } in log) same;
+  inputs_are = is
+      ∙ ap
+      (λ (l : List Packet). let log : Fed = record { threads = s.threads; tags = s.tags; packets = l } in log) same;
 }

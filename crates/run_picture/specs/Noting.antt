@@ -17,7 +17,7 @@ use Rattle.run_drawing.specs.Noted.{Noted}
 -- the setting is one of a box that means this, on all of these inputs
 pub record AreInputs {V : Type 0} (m : Meaning V) (inputs : Fed) (s : Setting V) : Type 0 where
   pub meaning : s.meaning ≡ m
-  pub inputs_are : inputs ≡ record { threads = s.threads; packets = s.packets }
+  pub inputs_are : inputs ≡ record { threads = s.threads; tags = s.tags; packets = s.packets }
 
 -- what the moves of a world's master did behind the first of them; nothing where there are too many to be drawn
 abbrev pub made_at : {V : Type 0} → ℕ → SystemWorld V → List Made

@@ -72,12 +72,13 @@ fn perform_run<P: Program>(alloc: Global, run: ScriptRun, program: &P) -> Result
         → IsHalted (setting_of (P.meaning program.now) run) run.events limit }
 {
     let packets = copy_packets(alloc, run.packets.as_slice())?;
-    let inputs = log_all(alloc, run.threads, packets)?;
+    let inputs = log_all(alloc, run.threads, run.tags, packets)?;
     let lent = Lent { program };
     let system = System::new(
         alloc,
         Lent { program },
         run.threads,
+        run.tags,
         run.seed,
         run.unit,
         run.packets,

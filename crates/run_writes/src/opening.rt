@@ -16,6 +16,8 @@ use world_io::World;
 pub struct ScriptRun {
     /// The number of threads, 1 to 16.
     pub threads: u32,
+    /// Whether one tag is looked through.
+    pub tags: bool,
     /// The seed of the generator of random words.
     pub seed: u64,
     /// What the fractions of the packets count.

@@ -4,13 +4,20 @@ use input_logger::InputLog;
 use plain_text::{NoMemory, Packets};
 use std::alloc::Global;
 
-/// An input log for 1 to 16 threads that was fed all packets of a capture.
-pub fn feed_all(alloc: Global, threads: u32, packets: Packets) -> Result<InputLog, NoMemory>
+/// An input log for 1 to 16 threads that was fed all packets of a capture; `tags` says whether one tag
+/// is looked through.
+pub fn feed_all(
+    alloc: Global,
+    threads: u32,
+    tags: bool,
+    packets: Packets,
+) -> Result<InputLog, NoMemory>
     requires some { 1 ≤ threads }
     requires few { threads ≤ 16 }
-    ensures { IfOk result (λ log. log ≡ record { threads = threads; packets = packets }) }
+    ensures { IfOk result
+        (λ log. log ≡ record { threads = threads; tags = tags; packets = packets }) }
 {
-    let mut log = InputLog::new(alloc, threads)?;
+    let mut log = InputLog::new(alloc, threads, tags)?;
     for packet in packets.into_vec() {
         log.feed(packet)?;
     }

@@ -15,4 +15,6 @@ pub record CanPlay (run : ScheduleRun) : Type 0 where
 
 -- what a box that means this comes to by the schedule: the history of its moves, or the first illegal one
 abbrev pub outcome_of : {V : Type 0} → Meaning V → ScheduleRun → Result (List (Step V)) PlayFault
-outcome_of m run = play m (inputs_of (record { threads = run.threads; packets = run.packets })) run.threads run.schedule
+outcome_of m run =
+    play m (inputs_of (record { threads = run.threads; tags = run.tags; packets = run.packets })) run.threads
+    run.schedule

@@ -28,7 +28,7 @@ fn find_released<P: Program>(
     ensures count { IfOk result (λ count. count ≡ length released.now) }
     ensures quiet { ¬ IsErrOf result ScheduleError.WriteFault }
 {
-    let inputs = feed_all(alloc, run.threads, run.packets)?;
+    let inputs = feed_all(alloc, run.threads, run.tags, run.packets)?;
     let schedule = &run.schedule;
     let checked = check(
         alloc,

@@ -27,7 +27,7 @@ fn play_whole<P: Program>(
     ensures emits { IsEmitted (outcome_of (P.meaning program.now) run) result }
     ensures short { IfOk result (All IsShort) }
 {
-    let inputs = feed_all(alloc, run.threads, run.packets)?;
+    let inputs = feed_all(alloc, run.threads, run.tags, run.packets)?;
     emit(alloc, program, &inputs, &run.schedule)
 }
 

@@ -6,6 +6,8 @@ use plain_text::{Packets, Unit};
 pub struct ScheduleRun {
     /// The number of threads, 1 to 16.
     pub threads: u32,
+    /// Whether one tag is looked through.
+    pub tags: bool,
     /// What the fractions of the packets count.
     pub unit: Unit,
     /// The packets of the capture, in its order, at most 65,536.

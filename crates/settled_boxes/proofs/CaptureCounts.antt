@@ -30,7 +30,7 @@ taken_all : {V : Type 0} (s : Setting V) (w : World V) (steps : List (Step V)) (
 taken_all s w steps number some settled =
     sum_below_same s.threads _ (λ t. shares number (all_inputs s t))
     (λ t low. ap (shares number) (take_all (thread_after steps t).taken (all_inputs s t) (few t (settled.taken t low))))
-    ∙ steered_sum number s.threads s.packets some
+    ∙ steered_sum number s.tags s.threads s.packets some
   where
     few : (t : ℕ) → (thread_after steps t).taken ≡ length (all_inputs s t)
         → length (all_inputs s t) ≤ (thread_after steps t).taken

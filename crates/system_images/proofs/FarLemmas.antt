@@ -328,7 +328,8 @@ module _ {P V : Type 0} (mean : P → Meaning V) (view now : Parts P V) (is : vi
       f in
       let b = subst (λ (i : Fed). IsFar (mean now.program) (inputs_of i) i.threads image.past far) st.inputs.inputs a in
       let c = subst (λ (n : ℕ). IsFar (mean now.program)
-      (inputs_of (record { threads = s.threads; packets = take n s.packets })) s.threads image.past far) fed b in
+      (inputs_of (record { threads = s.threads; tags = s.tags; packets = take n s.packets })) s.threads image.past far)
+      fed b in
       subst (λ (m : Meaning V). IsFar m (inputs_fed s image.fed) s.threads image.past far) (sym st.inputs.meaning) c
 
   -- and a wrong row is one of them

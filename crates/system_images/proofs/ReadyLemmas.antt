@@ -151,9 +151,9 @@ module _ {P V : Type 0} (m : Meaning V) (fits : ℕ → V → Type 0) (lawful : 
 
   few_in : (t : ℕ) → length (inputs_fed s w.fed t) < 2 ^ 50
   few_in t =
-      let fed : Fed = record { threads = s.threads; packets = take w.fed s.packets } in
-      let e = length-filter (λ packet. thread_of packet fed.threads == t) fed.packets in
-      let k = count_by-le-length (λ packet. thread_of packet fed.threads == t) fed.packets in
+      let fed : Fed = record { threads = s.threads; tags = s.tags; packets = take w.fed s.packets } in
+      let e = length-filter (λ packet. thread_of fed.tags packet fed.threads == t) fed.packets in
+      let k = count_by-le-length (λ packet. thread_of fed.tags packet fed.threads == t) fed.packets in
       let same : length y.inputs.packets ≡ length fed.packets = ap (λ (f : Fed). length f.packets) st.inputs.inputs in
       omega (arith, e, k, same, few)
 

@@ -215,7 +215,8 @@ module _ {P V : Type 0} (m : Meaning V) (s : Setting V) (image : Image) (here : 
       inputs = record {
         meaning = st.inputs.meaning;
         fractions = st.inputs.fractions;
-        inputs = subst (λ (n : ℕ). y.inputs ≡ record { threads = s.threads; packets = take n s.packets }) fed
+        inputs = subst
+            (λ (n : ℕ). y.inputs ≡ record { threads = s.threads; tags = s.tags; packets = take n s.packets }) fed
             st.inputs.inputs;
         left = subst (λ (n : ℕ). y.left ≡ drop n s.packets) fed st.inputs.left;
         clock = i.clock;

@@ -114,6 +114,7 @@ pub fn resume_parts<P: Program>(
     alloc: Global,
     program: P,
     threads: u32,
+    tags: bool,
     seed: u64,
     unit: Unit,
     packets: Packets,
@@ -125,6 +126,7 @@ pub fn resume_parts<P: Program>(
     ensures faults { (error : ResumeErrorKind) → result ≡ Err error → IsFault (record {
       meaning = P.meaning program;
       threads = threads;
+      tags = tags;
       fractions = unit;
       packets = packets;
       seed = seed;
@@ -132,6 +134,7 @@ pub fn resume_parts<P: Program>(
     ensures no_fault { IfOk result (λ y. HasNoFault (record {
       meaning = P.meaning program;
       threads = threads;
+      tags = tags;
       fractions = unit;
       packets = packets;
       seed = seed;
@@ -139,18 +142,21 @@ pub fn resume_parts<P: Program>(
     ensures stands { IfOk result (λ y. (w : World P.Value) → Sound (record {
       meaning = P.meaning program;
       threads = threads;
+      tags = tags;
       fractions = unit;
       packets = packets;
       seed = seed;
     }) w → IsAtRest w → IsImageOf (record {
       meaning = P.meaning program;
       threads = threads;
+      tags = tags;
       fractions = unit;
       packets = packets;
       seed = seed;
     }) w image.now → StandsFor (P.meaning program) (record {
       meaning = P.meaning program;
       threads = threads;
+      tags = tags;
       fractions = unit;
       packets = packets;
       seed = seed;
@@ -158,19 +164,21 @@ pub fn resume_parts<P: Program>(
     ensures some { IfOk result (λ y. (w : World P.Value) × Sound (record {
       meaning = P.meaning program;
       threads = threads;
+      tags = tags;
       fractions = unit;
       packets = packets;
       seed = seed;
     }) w × IsAtRest w × IsImageOf (record {
       meaning = P.meaning program;
       threads = threads;
+      tags = tags;
       fractions = unit;
       packets = packets;
       seed = seed;
     }) w image.now) }
     ensures program { IfOk result (λ y. y.program ≡ program) }
 {
-    let mut core = open_parts(alloc, program, threads, seed, unit, packets)?;
+    let mut core = open_parts(alloc, program, threads, tags, seed, unit, packets)?;
     match bring(&mut core, seed, image) {
         Ok(()) => Ok(core),
         Err(error) => {

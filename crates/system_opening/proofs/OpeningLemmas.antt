@@ -1,6 +1,6 @@
 -- Before the first event a system stands for the opening.
 use Rattle.std.proofs.Common.{◌≡◌, ℕ, zero, suc, ◌≤◌, All, List, [], length, replicate, slice_index_or, refl, sym, ap}
-use Rattle.std.proofs.Common.{◌∙◌, subst, inl, inr, arith, true, None, ◌<◌, ◌^◌}
+use Rattle.std.proofs.Common.{Bool, ◌∙◌, subst, inl, inr, arith, true, None, ◌<◌, ◌^◌}
 use Rattle.plain_text.specs.Packets.{IsShort}
 use Rattle.plain_text.specs.declared.packet.Packet.{Packet}
 use Rattle.plain_text.specs.declared.packet.Unit.{Unit as FractionUnit}
@@ -99,19 +99,29 @@ opening_guide {V} guide none = subst (λ (g : List Lane). HasGuide [] (opening V
   holds = record { covered = λ t. refl; of_log = λ t n x at. absurd (cc) };
 })
 
+-- what stays the same in a system that is opened so
+abbrev opened : {V : Type 0} → Meaning V → ℕ → Bool → FractionUnit → List Packet → ℕ → Setting V
+opened m threads tags fractions packets seed = record {
+  meaning = m;
+  threads = threads;
+  tags = tags;
+  fractions = fractions;
+  packets = packets;
+  seed = seed;
+}
+
 -- The system stands for the opening.
-pub opening_stands : {P V : Type 0} (m : Meaning V) (threads seed : ℕ) (fractions : FractionUnit)
+pub opening_stands : {P V : Type 0} (m : Meaning V) (threads seed : ℕ) (tags : Bool) (fractions : FractionUnit)
     (packets : List Packet) (y : Parts P V) → y.fractions ≡ fractions → y.clock ≡ 0
-    → y.generator ≡ drawn_after seed 0 → y.left ≡ packets → y.inputs ≡ record { threads = threads; packets = [] }
+    → y.generator ≡ drawn_after seed 0 → y.left ≡ packets
+    → y.inputs ≡ record { threads = threads; tags = tags; packets = [] }
     → y.up ≡ true → Stands m threads [] y.master → y.schedule ≡ [] → y.guide ≡ [] → IsFreshStore m threads y.store
     → y.ended ≡ [] → y.moves ≡ 0 → y.bytes ≡ 0 → IsUnsent threads y.sent → y.logger ≡ fresh_logger threads
     → y.released ≡ []
-    → StandsFor m (record { meaning = m; threads = threads; fractions = fractions; packets = packets; seed = seed })
-    (opening V) y
-opening_stands {P} {V} m threads seed fractions packets y fractions_are clock generator left inputs up master schedule
-    guide store ended moves bytes sent logger released = record {
-      sound = opening_sound
-          (record { meaning = m; threads = threads; fractions = fractions; packets = packets; seed = seed });
+    → StandsFor m (opened m threads tags fractions packets seed) (opening V) y
+opening_stands {P} {V} m threads seed tags fractions packets y fractions_are clock generator left inputs up master
+    schedule guide store ended moves bytes sent logger released = record {
+      sound = opening_sound (opened m threads tags fractions packets seed);
       within = refl;
       inputs = record {
         meaning = refl;
@@ -121,9 +131,8 @@ opening_stands {P} {V} m threads seed fractions packets y fractions_are clock ge
         clock = clock;
         generator = generator;
       };
-      snapshots = opening_snapshots
-          (record { meaning = m; threads = threads; fractions = fractions; packets = packets; seed = seed }) y.store
-          store.stands store.moves store.none;
+      snapshots = opening_snapshots (opened m threads tags fractions packets seed) y.store store.stands store.moves
+          store.none;
       ended = opening_ended threads y.ended ended;
       guide = opening_guide y.guide guide;
       master =
@@ -134,14 +143,15 @@ opening_stands {P} {V} m threads seed fractions packets y fractions_are clock ge
     }
 
 -- What is true of the parts of every system is true of these.
-pub opening_are_parts : {P V : Type 0} (m : Meaning V) (fits : ℕ → V → Type 0) (threads : ℕ) (packets : List Packet)
-    (y : Parts P V) → 1 ≤ threads → threads ≤ 16 → All IsShort packets → FitsProgram m fits value_of y.master.vars
-    → y.left ≡ packets → y.inputs ≡ record { threads = threads; packets = [] } → Stands m threads [] y.master
+pub opening_are_parts : {P V : Type 0} (m : Meaning V) (fits : ℕ → V → Type 0) (threads : ℕ) (tags : Bool)
+    (packets : List Packet) (y : Parts P V) → 1 ≤ threads → threads ≤ 16 → All IsShort packets
+    → FitsProgram m fits value_of y.master.vars → y.left ≡ packets
+    → y.inputs ≡ record { threads = threads; tags = tags; packets = [] } → Stands m threads [] y.master
     → y.moves ≡ 0 → y.bytes ≡ 0 → IsUnsent threads y.sent → y.logger ≡ fresh_logger threads
     → IsFreshStore m threads y.store → FitsProgram m fits value_of y.store.stored.master.vars → length packets < 2 ^ 50
     → AreParts m fits y
-opening_are_parts {P} {V} m fits threads packets y some few short all left inputs master moves bytes sent logger store
-    stored_fits few_packets = record {
+opening_are_parts {P} {V} m fits threads tags packets y some few short all left inputs master moves bytes sent logger
+    store stored_fits few_packets = record {
       fits = all;
       some_threads = subst (λ (f : Fed). 1 ≤ f.threads) (sym inputs) some;
       few_threads = subst (λ (f : Fed). f.threads ≤ 16) (sym inputs) few;

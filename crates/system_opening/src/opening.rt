@@ -23,11 +23,12 @@ use system_parts::Core;
 /// More packets than this are taken for more than memory has.
 const MOST_PACKETS: usize = 1 << 50;
 
-/// The parts of a system on these packets, before the first event.
+/// The parts of a system on these packets, before the first event; `tags` says whether one tag is looked through.
 pub fn open_parts<P: Program>(
     alloc: Global,
     program: P,
     threads: u32,
+    tags: bool,
     seed: u64,
     unit: Unit,
     packets: Packets,
@@ -38,6 +39,7 @@ pub fn open_parts<P: Program>(
     ensures stands { IfOk result (λ y. StandsFor (P.meaning program) (record {
       meaning = P.meaning program;
       threads = threads;
+      tags = tags;
       fractions = unit;
       packets = packets;
       seed = seed;
@@ -47,7 +49,7 @@ pub fn open_parts<P: Program>(
     if packets.len() >= MOST_PACKETS {
         return Err(NoMemory);
     }
-    let inputs = InputLog::new(alloc, threads)?;
+    let inputs = InputLog::new(alloc, threads, tags)?;
     let sent = SentFrames::new(alloc, threads)?;
     let logger = OutputLogger::new(alloc, threads)?;
     let master = Master::fresh(alloc, &program, threads)?;

@@ -33,7 +33,7 @@ use Rattle.system_parts.specs.Parts.{Parts}
 pub record HasInputs {P V : Type 0} (m : Meaning V) (s : Setting V) (w : World V) (y : Parts P V) : Type 0 where
   pub meaning : s.meaning ≡ m
   pub fractions : s.fractions ≡ y.fractions
-  pub inputs : y.inputs ≡ record { threads = s.threads; packets = take w.fed s.packets }
+  pub inputs : y.inputs ≡ record { threads = s.threads; tags = s.tags; packets = take w.fed s.packets }
   pub left : y.left ≡ drop w.fed s.packets
   pub clock : y.clock ≡ w.clock
   pub generator : y.generator ≡ drawn_after s.seed w.drawn

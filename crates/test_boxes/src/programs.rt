@@ -27,7 +27,8 @@ fn sent_by<P: Program>(
 ) -> Result<Option<Bytes>, NoMemory>
     requires { (var : ℕ) → P.fits program.now var value.old }
 {
-    let mut local = program.begin(packet);
+    let frame = packet.bytes.as_slice();
+    let mut local = program.begin(frame, packet.original);
     match program.next(&local) {
         Move::Access(var) => program.touch(alloc, var, value, &mut local)?,
         Move::Read(var) => program.look(var, value, &mut local),
@@ -35,7 +36,7 @@ fn sent_by<P: Program>(
     }
     match program.next(&local) {
         Move::Emit => {
-            let sent = program.packet_out(alloc, packet, &local)?;
+            let sent = program.packet_out(alloc, frame, packet.original, &local)?;
             program.emitted(&mut local);
             match program.next(&local) {
                 Move::End => Ok(Some(sent)),

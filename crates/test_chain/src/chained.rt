@@ -159,11 +159,12 @@ fn open(alloc: Global, packets: Packets) -> Result<Chain<CountBox, CountBox>, No
     requires { All IsShort packets }
     ensures { IfOk result (λ chain. chain.stopped ≡ false) }
 {
-    let first = System::new(alloc, CountBox::new(), 1, 42, Unit::Micro, packets)?;
+    let first = System::new(alloc, CountBox::new(), 1, false, 42, Unit::Micro, packets)?;
     match System::new(
         alloc,
         CountBox::new(),
         1,
+        false,
         42,
         Unit::Micro,
         Packets::new(alloc),

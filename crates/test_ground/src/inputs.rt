@@ -71,7 +71,7 @@ fn are_kept(log: &InputLog) -> bool {
 
 /// Whether the inputs of two threads are kept.
 fn keeps_inputs(alloc: Global) -> Result<bool, NoMemory> {
-    let mut log = InputLog::new(alloc, 2)?;
+    let mut log = InputLog::new(alloc, 2, false)?;
     goes_between_threads(&log);
     Ok(are_fed(alloc, &mut log)? && are_kept(&log))
 }
@@ -85,9 +85,9 @@ fn keeps_the_inputs_of_each_thread(rt: HostRuntime) {
 const STEERED: [(u32, u32); 3] = [(1, 0), (7, 4), (16, 10)];
 
 /// 198.51.100.7 + 203.0.113.1 + 53 + 39,276 + 17 is 6,731,099,834.
-fn is_steered(answer: &Packet) -> bool {
+fn is_steered(answer: &Packet, tags: bool) -> bool {
     for (threads, thread) in &STEERED {
-        if steer(answer, *threads) != *thread {
+        if steer(answer, *threads, tags) != *thread {
             return false;
         }
     }
@@ -97,6 +97,29 @@ fn is_steered(answer: &Packet) -> bool {
 #[test]
 fn steers_by_the_whole_sum(rt: HostRuntime) -> Result<(), NoMemory> {
     let answer = packet(rt.alloc(), 0, &ANSWER)?;
-    assert!(rt; is_steered(&answer));
+    assert!(rt; is_steered(&answer, false));
+    assert!(rt; is_steered(&answer, true));
+    Ok(())
+}
+
+/// The answer with a tag of VLAN 5.
+fn tagged_answer(alloc: Global) -> Result<Packet, NoMemory> {
+    let mut bytes = Bytes::of(alloc, &ANSWER[..12])?;
+    bytes.extend(&[0x81, 0, 0, 5])?;
+    bytes.extend(&ANSWER[12..])?;
+    Ok(Packet {
+        seconds: 0,
+        fraction: 0,
+        original: 46,
+        bytes,
+    })
+}
+
+/// Behind the tag the answer goes to its thread; where no tag is looked through, it is no flow.
+#[test]
+fn steers_behind_one_tag(rt: HostRuntime) -> Result<(), NoMemory> {
+    let answer = tagged_answer(rt.alloc())?;
+    assert!(rt; is_steered(&answer, true));
+    assert!(rt; steer(&answer, 16, false) == 0);
     Ok(())
 }

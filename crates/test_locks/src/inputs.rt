@@ -16,7 +16,7 @@ fn packet(alloc: Global, frame: &[u8]) -> Result<Packet, NoMemory> {
 /// This number of packets of each of two frames, in turn, as the inputs of two threads.
 pub fn inputs_of(alloc: Global, frames: [&[u8]; 2], count: u64) -> Result<InputLog, NoMemory> {
     let [first, second] = frames;
-    let mut inputs = InputLog::new(alloc, 2)?;
+    let mut inputs = InputLog::new(alloc, 2, false)?;
     for _number in 0..count {
         inputs.feed(packet(alloc, first)?)?;
         inputs.feed(packet(alloc, second)?)?;

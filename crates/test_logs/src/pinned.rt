@@ -4,7 +4,7 @@ ghost use Rattle.test_logs.specs.Pinned.{pinned_meaning, pinned_lawful};
 
 use box_program::{CountBox, Program};
 use plain_machine::{Local, Move};
-use plain_text::{Bytes, NoMemory, Packet, Text};
+use plain_text::{Bytes, NoMemory, Text};
 use std::alloc::Global;
 
 /// The variable that can't be copied.
@@ -37,8 +37,8 @@ impl Program for PinnedBox {
         Ok(0)
     }
 
-    fn begin(&self, packet: &Packet) -> Local {
-        self.count.begin(packet)
+    fn begin(&self, frame: &[u8], original: u32) -> Local {
+        self.count.begin(frame, original)
     }
 
     fn next(&self, local: &Local) -> Move {
@@ -67,8 +67,14 @@ impl Program for PinnedBox {
         self.count.emitted(local);
     }
 
-    fn packet_out(&self, alloc: Global, packet: &Packet, local: &Local) -> Result<Bytes, NoMemory> {
-        self.count.packet_out(alloc, packet, local)
+    fn packet_out(
+        &self,
+        alloc: Global,
+        frame: &[u8],
+        original: u32,
+        local: &Local,
+    ) -> Result<Bytes, NoMemory> {
+        self.count.packet_out(alloc, frame, original, local)
     }
 
     fn copy_value(&self, alloc: Global, var: u32, value: &u64) -> Result<u64, NoMemory> {

@@ -41,7 +41,7 @@ fn fresh<P: Program>(alloc: Global, program: P, threads: u32, packets: u32) -> O
     if threads == 0 || threads > 16 || !are_taken(packets.as_slice()) {
         return None;
     }
-    match System::new(alloc, program, threads, SEED, Unit::Micro, packets) {
+    match System::new(alloc, program, threads, false, SEED, Unit::Micro, packets) {
         Ok(system) => Some(system),
         Err(NoMemory) => None,
     }

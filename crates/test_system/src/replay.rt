@@ -116,7 +116,7 @@ fn run_of<P: Program>(
     requires few { threads ≤ 16 }
     requires short { All IsShort packets }
 {
-    let mut system = System::new(alloc, program, threads, SEED, Unit::Micro, packets)?;
+    let mut system = System::new(alloc, program, threads, false, SEED, Unit::Micro, packets)?;
     match perform_all(alloc, &mut system, events, report) {
         Ok(true) => Ok(Some(system.finish()?)),
         ended => {

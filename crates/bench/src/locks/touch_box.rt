@@ -4,7 +4,7 @@ ghost use Rattle.box_program.specs.Count.{IsCounter};
 
 use box_program::Program;
 use plain_machine::{Local, Move};
-use plain_text::{Bytes, NoMemory, Packet, Text};
+use plain_text::{Bytes, NoMemory, Text};
 use std::alloc::Global;
 
 /// The variables of the box.
@@ -43,9 +43,9 @@ impl Program for TouchBox {
         Ok(0)
     }
 
-    fn begin(&self, packet: &Packet) -> Local {
+    fn begin(&self, frame: &[u8], _original: u32) -> Local {
         let mut regs = [0; 12];
-        if let Some(first) = packet.bytes.as_slice().first() {
+        if let Some(first) = frame.first() {
             regs[0] = u64::from(*first);
         }
         Local { at: 0, regs }
@@ -84,10 +84,11 @@ impl Program for TouchBox {
     fn packet_out(
         &self,
         alloc: Global,
-        packet: &Packet,
+        frame: &[u8],
+        _original: u32,
         _local: &Local,
     ) -> Result<Bytes, NoMemory> {
-        Bytes::of(alloc, packet.bytes.as_slice())
+        Bytes::of(alloc, frame)
     }
 
     fn copy_value(&self, _alloc: Global, _var: u32, value: &u64) -> Result<u64, NoMemory> {

@@ -32,7 +32,7 @@ pub fn open<P: Program>(
     requires short { All IsShort packets }
 {
     let count = packets.len() as u64;
-    let mut system = System::new(alloc, program, threads, SEED, Unit::Micro, packets)?;
+    let mut system = System::new(alloc, program, threads, false, SEED, Unit::Micro, packets)?;
     let fed = system.on(&Event::Feed(count)).is_ok();
     system.discard();
     ensure!(fed, "the packets were not fed");
@@ -138,6 +138,6 @@ pub fn race_whole<P: Program + Send + Sync, R: AllocGlobal + Threads + Wait + Sy
     let alloc = rt.alloc();
     let each = packets.len() as u64 / rounds;
     let draws = Draws::new(alloc, SEED, threads)?;
-    let system = System::new(alloc, program, threads, SEED, Unit::Micro, packets)?;
+    let system = System::new(alloc, program, threads, false, SEED, Unit::Micro, packets)?;
     race_often(rt, system, draws, each, rounds, (0, 0)).context("a round came to no end")
 }

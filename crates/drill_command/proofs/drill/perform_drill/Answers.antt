@@ -13,7 +13,7 @@ pub returns-in-Ok : goal.returns-in-Ok
 returns-in-Ok g c =
     let run = c.args.run in
     let m = g.P.Program.meaning c.args.program.now in
-    let frame : Frame = record { threads = run.threads; seed = run.seed; unit = run.unit } in
+    let frame : Frame = record { threads = run.threads; tags = run.tags; seed = run.seed; unit = run.unit } in
     let drill = c.as_slice-drill.ensures ∙ c.in_ok-events.ensures ∙ ap (drill_events run.every) c.len-count.ensures in
     let calm = c.as_slice-others.ensures ∙ c.in_ok-calm.ensures ∙ ap (calm_events run.every) c.len-count.ensures in
     let beside = c.in_ok-beside-in-Ok.beside in
@@ -32,7 +32,7 @@ pub returns-in-Err-Limit : goal.returns-in-Err-Limit
 returns-in-Err-Limit g c =
     let run = c.args.run in
     let m = g.P.Program.meaning c.args.program.now in
-    let frame : Frame = record { threads = run.threads; seed = run.seed; unit = run.unit } in
+    let frame : Frame = record { threads = run.threads; tags = run.tags; seed = run.seed; unit = run.unit } in
     let drill = c.as_slice-drill.ensures ∙ c.in_ok-events.ensures ∙ ap (drill_events run.every) c.len-count.ensures in
     let at : c.in_ok-ran.ran.end ≡ Err (stop.Limit c.in-Err-Limit.limit) = search rules in
     drill_stopped (setting_of m run) run.every run.table c.in-Err-Limit.limit c.in_ok-ran.ran.outputs

@@ -2,7 +2,6 @@ use Rattle.std.proofs.Common.{◌≡◌, ◌+◌, ℕ, ◌%◌, ap, sym, ◌∙�
 use Rattle.plain_text.specs.declared.packet.Packet.{Packet}
 use Rattle.packet_headers.specs.declared.flow.Flow.{Flow}
 use Rattle.packet_headers.specs.Steering.{AreBothDirections, steering_sum}
-use Rattle.packet_headers.specs.View.{viewed}
 use Rattle.input_logger.specs.Inputs.{thread_of, thread_of_view}
 use Rattle.input_logger.proofs.laws.both_directions_have_one_thread.Goals as goal
 
@@ -16,7 +15,7 @@ one_sum there back both =
     omega arith
 
 pub returns : goal.returns
-returns c = λ p q there back threads seen_p seen_q both.
+returns c = λ tags p q there back threads seen_p seen_q both.
     ap (λ v. thread_of_view v threads) seen_p
     ∙ ap (λ (n : ℕ). n % threads) (one_sum there back both)
     ∙ sym (ap (λ v. thread_of_view v threads) seen_q)

@@ -12,10 +12,11 @@ loop-packet-preserved c =
     let of = c.in_ok-turn.ensures in
     record {
       inputs = of.ok ∙ ap (λ (log : Fed). with_packet log packet) inv.inputs;
-      turns = subst (λ (l : List (ℕ × ℕ)). AreTurns c.args.threads (c.loop-packet.yielded ++ packet ∷ []) l)
+      turns = subst
+          (λ (l : List (ℕ × ℕ)). AreTurns c.args.threads c.args.tags (c.loop-packet.yielded ++ packet ∷ []) l)
           (sym c.in_ok-push.ensures.ok)
-          (steered_on c.args.threads c.loop-packet.yielded c.loop-packet.turns inv.turns packet turn
-          (of.thread ∙ ap (λ (log : Fed). thread_of packet log.threads) inv.inputs)
+          (steered_on c.args.threads c.args.tags c.loop-packet.yielded c.loop-packet.turns inv.turns packet turn
+          (of.thread ∙ ap (λ (log : Fed). thread_of log.tags packet log.threads) inv.inputs)
           (subst (λ (log : Fed). turn.0 < log.threads) inv.inputs of.below)
           (of.number ∙ ap (λ (log : Fed). length (inputs_of log turn.0) + 1) inv.inputs));
     }

@@ -5,6 +5,6 @@ use Rattle.packet_trace.proofs.steering.steer_all.Given as goal
 -- the packets so far were steered
 abbrev pub invariant-loop-packet : goal.invariant-loop-packet
 invariant-loop-packet l = record {
-  inputs : l.inputs ≡ record { threads = l.threads; packets = l.yielded };
-  turns : AreTurns l.threads l.yielded l.turns;
+  inputs : l.inputs ≡ record { threads = l.threads; tags = l.tags; packets = l.yielded };
+  turns : AreTurns l.threads l.tags l.yielded l.turns;
 }

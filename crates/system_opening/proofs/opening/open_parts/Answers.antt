@@ -5,7 +5,8 @@ use Rattle.system_opening.proofs.opening.open_parts.Goals as goal
 pub invariant_of-result : goal.invariant_of-result
 invariant_of-result g c =
     opening_are_parts (g.P.Program.meaning c.args.program) (g.P.Program.fits c.args.program) c.args.threads
-    c.args.packets _ c.requires.some_threads c.requires.few_threads c.requires.short c.in_ok-master.ensures.fits
+    c.args.tags c.args.packets _ c.requires.some_threads c.requires.few_threads c.requires.short
+    c.in_ok-master.ensures.fits
     (c.from_vec-left.ensures.items ∙ c.into_vec.ensures)
     c.in_ok-inputs.ensures c.in_ok-master.ensures.stands refl refl c.in_ok-sent.ensures c.in_ok-logger.ensures (record {
       stands = c.in_ok-store.ensures.fresh;
@@ -15,7 +16,8 @@ invariant_of-result g c =
 
 pub returns-clause-stands : goal.returns-clause-stands
 returns-clause-stands g c =
-    opening_stands (g.P.Program.meaning c.args.program) c.args.threads c.args.seed c.args.unit c.args.packets _
+    opening_stands (g.P.Program.meaning c.args.program) c.args.threads c.args.seed c.args.tags c.args.unit
+    c.args.packets _
     refl refl c.words_behind.ensures
     (c.from_vec-left.ensures.items ∙ c.into_vec.ensures)
     c.in_ok-inputs.ensures refl

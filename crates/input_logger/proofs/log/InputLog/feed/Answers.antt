@@ -6,7 +6,8 @@ use Rattle.input_logger.proofs.log.InputLog.feed.Goals as goal
 
 pub invariant_of-self-2 : goal.invariant_of-self-2
 invariant_of-self-2 c =
-    let log : Fed = record { threads = c.self.inside.threads; packets = c.self.inside.packets } in
+    let log : Fed =
+    record { threads = c.self.inside.threads; tags = c.self.inside.tags; packets = c.self.inside.packets } in
     let in_lists = c.self.invariant.one_each in
     rw (c.in-Ok.ensures.ok, c.in_ok-push.ensures.ok, c.len-place.ensures) (fed_is_indexed log c.self.inside.places.items
     c.args.packet c.steer-thread.result c.index_mut-places.result.now c.self.invariant c.steer-thread.ensures.thread
@@ -14,7 +15,8 @@ invariant_of-self-2 c =
 
 pub returns-clause-number : goal.returns-clause-number
 returns-clause-number c =
-    let log : Fed = record { threads = c.self.inside.threads; packets = c.self.inside.packets } in
+    let log : Fed =
+    record { threads = c.self.inside.threads; tags = c.self.inside.tags; packets = c.self.inside.packets } in
     let in_lists = c.self.invariant.one_each in
     let earlier = length-inputs log c.self.inside.places.items c.steer-thread.result c.index_mut-places.result.now
     c.self.invariant (omega (arith, c.steer-thread.ensures.below)) c.index_mut-places.ensures.value in

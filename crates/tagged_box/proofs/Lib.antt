@@ -1,0 +1,6 @@
+pub mod Moves
+pub mod Runs
+pub mod Emissions
+pub mod Nothing
+pub mod Unique
+pub mod InputBytes
