@@ -7,7 +7,7 @@ use Rattle.entry_order.specs.declared.what.What.TheVariants.{Access, Read, Clock
 use Rattle.entry_order.specs.Log.{Entry, IsIn, IsNext, IsNextTouch, IsReadOf, IsTouchPast}
 use Rattle.entry_order.specs.Closed.{IsClosedPart, Lacks}
 use Rattle.entry_order.proofs.Order.{is_or}
-use Rattle.entry_order.proofs.SlowPrograms.{IsDropping, dropping_step}
+use Rattle.entry_order.proofs.Dropping.{IsDropping, dropping_step}
 
 -- a fact holds or not
 abbrev pub Or : Type 0 → Type 0

@@ -6,6 +6,7 @@ pub mod Weights
 pub mod Joins
 pub mod Missing
 pub mod Members
-pub mod SlowPrograms
+pub mod Dropping
+pub mod NoLater
 pub mod ClosedParts
 pub mod KeptEntries

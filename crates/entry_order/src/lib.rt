@@ -1,15 +1,10 @@
 //! The order of log entries: what precedes what among the accesses that a run logged. It knows no program.
 #![tactic(auto)]
 
-mod by_definition;
 mod laws;
 mod log_entry;
 mod what;
 
-pub use by_definition::{
-    closed_part, contains, entries_up_to, first_missing, is_next, missing_entries, precedes,
-    precedes_output, stamp_component, weight,
-};
 pub use laws::{
     closed_part_is_within_frontiers, closed_sets_go_back, closed_sets_go_on, entries_are_in_order,
     entries_are_numbered, missing_is_past_frontiers, numbers_tell_order, outputs_have_stamps,

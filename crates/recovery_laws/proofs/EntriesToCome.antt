@@ -11,7 +11,7 @@ use Rattle.entry_order.proofs.Order.{is_or, number_within, place_within, read_wi
 use Rattle.entry_order.proofs.Order.{same_number, same_place}
 use Rattle.entry_order.proofs.KeptEntries.{in_left, in_right, in_either, apart}
 use Rattle.entry_order.proofs.ClosedParts.{Or, in_or}
-use Rattle.entry_order.proofs.SlowPrograms.{no_later_trans, later_or}
+use Rattle.entry_order.proofs.NoLater.{no_later_trans, later_or}
 use Rattle.line_order.proofs.Arrangements.{tail_log, next_past}
 use Rattle.recovery_world.specs.Turns.{IsReadToCome, IsTouchToCome, IsAwaited}
 

@@ -15,7 +15,7 @@ use Rattle.entry_order.proofs.Order.{is_or, number_within, entry_there}
 use Rattle.entry_order.proofs.ClosedParts.{Or, in_or, entry_or as entry_is}
 use Rattle.entry_order.proofs.Joins.{stamp_there}
 use Rattle.entry_order.proofs.Missing.{output_in}
-use Rattle.entry_order.proofs.SlowPrograms.{no_later_trans, later_or}
+use Rattle.entry_order.proofs.NoLater.{no_later_trans, later_or}
 use Rattle.plain_machine.specs.declared.local.Move.{Move}
 use Rattle.plain_machine.specs.declared.local.Move.TheVariants.{Access, Read, Clock, Draw, Emit, End}
 use Rattle.plain_machine.specs.Machine.{Hand, Thread, Effect, Takes, Touches, Looks, HearsClock, HearsDraw, Sends, Ends}

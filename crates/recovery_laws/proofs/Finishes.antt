@@ -10,7 +10,7 @@ use Rattle.entry_order.specs.Closed.{IsClosedOver, IsClosedPart, IsMissing, IsNo
 use Rattle.entry_order.proofs.Order.{is_or, same_number}
 use Rattle.entry_order.proofs.ClosedParts.{Or, in_or, closed_part_there}
 use Rattle.entry_order.proofs.KeptEntries.{in_left, in_right, in_either}
-use Rattle.entry_order.proofs.SlowPrograms.{no_later_trans, later_or}
+use Rattle.entry_order.proofs.NoLater.{no_later_trans, later_or}
 use Rattle.plain_machine.specs.declared.emission.Emission.{Emission}
 use Rattle.plain_machine.specs.Program.{Meaning}
 use Rattle.plain_machine.specs.History.{Act, Took, Did, Emitted, Ended, Step, log_of, sent_more, sent_of, outputs}

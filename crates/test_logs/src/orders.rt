@@ -1,6 +1,7 @@
-use entry_order::{
-    LogEntry, What, closed_part, contains, entries_up_to, first_missing, is_next, missing_entries,
-    precedes, precedes_output, stamp_component, weight,
+use entry_order::{LogEntry, What};
+use slow_orders::{
+    closed_part, contains, entries_up_to, first_missing, is_next, missing_entries, precedes,
+    precedes_output, stamp_component, weight,
 };
 use std::alloc::{AllocError, Global};
 
