@@ -4,3 +4,4 @@ pub mod Members
 pub mod Narrow
 pub mod Rows
 pub mod Slots
+pub mod FromEntryOrder

@@ -1,6 +1,6 @@
 -- The packet in hand, from its place.
 use Rattle.std.proofs.Common.{◌≡◌, ℕ, List, Option, Some, None, refl, ap, ◌∙◌}
-use Rattle.plain_text.specs.declared.packet.Packet.{Packet}
+use Rattle.plain_machine.specs.FromPlainText.{Packet}
 use Rattle.plain_machine.specs.declared.local.Local.{Local}
 use Rattle.plain_machine.specs.Machine.{Hand, Thread}
 use Rattle.box_program.specs.Hands.{local_in, input_for}

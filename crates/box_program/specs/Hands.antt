@@ -2,7 +2,7 @@
 -- inputs, and a value of each variable.
 use Rattle.std.specs.Prelude.{◌≡◌, ℕ, ◌+◌, ◌<◌, Bool, List, Option, Some, None, length, is_some, slice_get}
 use Rattle.std.specs.Prelude.{slice_index_or}
-use Rattle.plain_text.specs.declared.packet.Packet.{Packet}
+use Rattle.plain_machine.specs.FromPlainText.{Packet}
 use Rattle.plain_machine.specs.declared.local.Local.{Local}
 use Rattle.plain_machine.specs.Program.{Meaning}
 use Rattle.plain_machine.specs.Machine.{Hand}

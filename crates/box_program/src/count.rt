@@ -3,8 +3,7 @@ ghost use Rattle.box_program.specs.Count.{count_meaning, IsCounter, count_lawful
 
 use crate::Program;
 use crate::numbered::numbered_bytes;
-use plain_machine::{Local, Move};
-use plain_text::{Bytes, NoMemory, Text};
+use plain_machine::{Bytes, Local, Move, NoMemory, Text};
 use std::alloc::Global;
 
 /// The places of the program: the touch, then the packet goes out, then the end.

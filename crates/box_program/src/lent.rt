@@ -1,5 +1,5 @@
 use crate::{Local, Move, Program};
-use plain_text::{Bytes, NoMemory, Text};
+use plain_machine::{Bytes, NoMemory, Text};
 use std::alloc::Global;
 
 /// A box that is lent, so that more than one system can run it, one after another. It is the box itself.

@@ -1,7 +1,7 @@
 ghost use Rattle.std.specs.Prelude.{◌≡◌, IfOk};
 ghost use Rattle.box_program.specs.Count.{numbered};
 
-use plain_text::{Bytes, NoMemory};
+use plain_machine::{Bytes, NoMemory};
 use std::alloc::Global;
 
 /// The first byte of the number that is written into a packet, and the byte after its last.

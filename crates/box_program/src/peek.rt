@@ -4,8 +4,7 @@ ghost use Rattle.box_program.specs.Peek.{peek_meaning, peek_lawful};
 
 use crate::Program;
 use crate::numbered::numbered_bytes;
-use plain_machine::{Local, Move};
-use plain_text::{Bytes, NoMemory, Text};
+use plain_machine::{Bytes, Local, Move, NoMemory, Text};
 use std::alloc::Global;
 
 /// The places of the program: the touch or the read, then the packet goes out, then the end.

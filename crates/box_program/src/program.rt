@@ -1,10 +1,9 @@
 ghost use Rattle.std.specs.Prelude.{◌≡◌, ◌<◌, ℕ, IfOk, OnOk, OnErr};
 ghost use Rattle.plain_machine.specs.Program.{Meaning, IsLawful};
 ghost use Rattle.plain_machine.specs.declared.local.Move.TheVariants.{Access, Emit};
-ghost use Rattle.plain_text.specs.declared.packet.Packet.{Packet};
+ghost use Rattle.plain_machine.specs.FromPlainText.{Packet};
 
-use plain_machine::{Local, Move};
-use plain_text::{Bytes, NoMemory, Text};
+use plain_machine::{Bytes, Local, Move, NoMemory, Text};
 use std::alloc::Global;
 
 /// A box program: the shared variables that live on between packets, and what is done with a packet, one move at a

@@ -7,3 +7,4 @@ mod chain;
 mod passing;
 
 pub use chain::{Chain, ChainFinished, Passed};
+pub use recovery_core::{Finished, Reply, Stop, System, put_line};

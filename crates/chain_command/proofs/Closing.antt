@@ -11,7 +11,7 @@ use Rattle.world_io.specs.World.{Shown}
 use Rattle.recovery_world.specs.World.{Setting}
 use Rattle.recovery_world.specs.Files.{done_line, moves_made}
 use Rattle.event_replies.specs.declared.reply.Finished.{Finished}
-use Rattle.recovery_core.specs.Systems.{FinishesAs}
+use Rattle.chain_box.specs.FromRecoveryCore.{FinishesAs}
 use Rattle.output_files.specs.declared.error.OutputError.{OutputError}
 use Rattle.output_files.specs.Writes.{Write, Appends, Reports, HasWritten, HasBegun}
 use Rattle.output_files.specs.Written.{Writes}

@@ -11,7 +11,7 @@ use Rattle.recovery_world.specs.Files.{packets_of}
 use Rattle.recovery_laws.specs.Sound.{Sound}
 use Rattle.recovery_laws.proofs.KeptWorlds.{stops_sound}
 use Rattle.event_replies.specs.declared.reply.Reply.{Reply as SystemReply}
-use Rattle.recovery_core.specs.Systems.{Systemed, HasReleased}
+use Rattle.chain_box.specs.FromRecoveryCore.{Systemed, HasReleased}
 use Rattle.run_writes.specs.Replies.{packets_in, newly_released}
 use Rattle.run_writes.proofs.ShortPackets.{released_short}
 use Rattle.chain_world.specs.declared.chain_event.ChainEvent.{ChainEvent}

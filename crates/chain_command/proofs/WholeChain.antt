@@ -11,7 +11,7 @@ use Rattle.access_log.specs.declared.entry.Output.{Output}
 use Rattle.plain_machine.specs.Program.{Meaning}
 use Rattle.world_io.specs.World.{Shown}
 use Rattle.recovery_world.specs.World.{Setting, opening}
-use Rattle.recovery_core.specs.Systems.{Systemed, SystemStands}
+use Rattle.chain_box.specs.FromRecoveryCore.{Systemed, SystemStands}
 use Rattle.output_files.specs.declared.error.OutputError.{OutputError}
 use Rattle.output_files.specs.declared.error.OutputError.TheVariants as output
 use Rattle.output_files.specs.Writes.{Write, HasWritten, HasBegun, HasGathered}

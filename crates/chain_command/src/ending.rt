@@ -14,11 +14,10 @@ ghost use Rattle.chain_command.specs.Writes.{Finishes};
 
 use crate::opening::ChainNumbers;
 use box_program::Program;
-use chain_box::{Chain, ChainFinished};
+use chain_box::{Chain, ChainFinished, Finished};
 use output_files::{OutputError, append, report, write_lines};
 use plain_player::put_schedule;
 use plain_text::{Bytes, NoMemory};
-use recovery_core::Finished;
 use run_writes::put_done;
 use std::alloc::Global;
 use world_io::World;

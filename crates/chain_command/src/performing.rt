@@ -5,10 +5,9 @@ ghost use Rattle.chain_world.specs.Chain.{NamesSystem};
 ghost use Rattle.chain_command.specs.Running.{ComesTo, IsSomewhere};
 
 use box_program::Program;
-use chain_box::{Chain, Passed};
+use chain_box::{Chain, Passed, Reply, Stop};
 use chain_world::ChainEvent;
 use plain_text::{Limit, NoMemory};
-use recovery_core::{Reply, Stop};
 
 /// What an event came to, and what each system released.
 #[derive(Drop)]

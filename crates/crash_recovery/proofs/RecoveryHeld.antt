@@ -17,8 +17,8 @@ use Rattle.master_core.specs.Stepping.{plain_entry}
 use Rattle.master_core.proofs.HeldEntries.{held_at, at_held}
 use Rattle.master_core.proofs.Holdings.{IsClosedOf, part_is_closed_part, part_holds}
 use Rattle.master_core.proofs.Moments.{moment_closed}
-use Rattle.replay_guide.specs.Following.{CanBeFollowed}
-use Rattle.replay_guide.proofs.WorldTurns.{held_follows, closed_can}
+use Rattle.system_parts.specs.FromReplayGuide.{CanBeFollowed}
+use Rattle.system_parts.proofs.FromReplayGuide.{held_follows, closed_can}
 use Rattle.recovery_world.specs.World.{Setting, World, inputs_fed}
 use Rattle.recovery_world.specs.Events.{entries_of_line}
 use Rattle.recovery_laws.specs.Sound.{Firm, IsEachOnce}

@@ -3,7 +3,7 @@ use Rattle.std.proofs.Common.{◌≡◌, ◌≢◌, ℕ, zero, suc, ◌+◌, ◌
 use Rattle.std.proofs.Common.{length-append, map, take, refl, sym, ap, ◌∙◌, subst, inl, inr, ◌⊎◌, arith, Some, None}
 use Rattle.std.specs.Prelude.{◌↔◌, slice_get, slice_index_or}
 use Rattle.std.specs.Option.{option_map}
-use Rattle.replay_guide.specs.Following.{CanBeFollowed}
+use Rattle.system_parts.specs.FromReplayGuide.{CanBeFollowed}
 use Rattle.std.proofs.lemmas.List.{length-map, length-take-le, take-append-le, take_all, get_or-take}
 use Rattle.std.proofs.lemmas.Option.{slice_get_within, slice_get-map, slice_get-get_or}
 use Rattle.entry_order.specs.Log.{Entry, entries}

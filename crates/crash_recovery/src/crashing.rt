@@ -18,10 +18,9 @@ use dup_filter::Released;
 use master_core::{Counts, Master};
 use plain_text::{NoMemory, Sequence};
 use recovery_world::Outcome;
-use replay_guide::Guide;
 use sent_frames::SentFrames;
 use std::alloc::Global;
-use system_parts::Core;
+use system_parts::{Core, Guide};
 
 /// The master crashes. A snapshot that was under way is lost.
 pub fn crash<P: Program>(core: &mut Core<P>) -> Outcome

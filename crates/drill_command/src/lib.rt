@@ -8,3 +8,4 @@ mod running;
 mod writing;
 
 pub use drill::{DrillRun, run_drill};
+pub use recovery_core::System;

@@ -1,11 +1,10 @@
 ghost use Rattle.std.specs.Prelude.{◌≡◌, List, IfOk};
-ghost use Rattle.recovery_world.specs.World.{Sent};
-ghost use Rattle.recovery_world.specs.Files.{reply_line, sent_names};
+ghost use Rattle.script_text.specs.FromRecoveryWorld.{Sent};
+ghost use Rattle.script_text.specs.FromRecoveryWorld.{reply_line, sent_names};
 
 use crate::Reply;
 use plain_text::{NoMemory, Text};
-use recovery_world::Event;
-use script_text::{write_event, write_outcome, write_released};
+use script_text::{Event, write_event, write_outcome, write_released};
 use std::alloc::Global;
 
 /// The line of the report for an event: its words, its outcome, and each output that it released as THREAD:NUMBER, with

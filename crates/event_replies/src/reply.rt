@@ -1,8 +1,7 @@
 ghost use Rattle.std.specs.Prelude.{◌≡◌, []};
 
-use plain_machine::Schedule;
 use plain_text::{Limit, NoMemory, Sequence};
-use recovery_world::Outcome;
+use script_text::{Outcome, Schedule};
 use std::alloc::Global;
 
 /// The thread and number of outputs that were released, in order of release.

@@ -7,7 +7,7 @@ use Rattle.world_io.specs.World.{Shown}
 use Rattle.recovery_world.specs.declared.event.Event.{Event}
 use Rattle.recovery_world.specs.World.{Setting, opening}
 use Rattle.recovery_world.specs.Files.{done_line}
-use Rattle.recovery_core.specs.Systems.{Systemed}
+use Rattle.run_command.specs.FromRecoveryCore.{Systemed}
 use Rattle.handover.specs.Images.{image_text}
 use Rattle.handover_world.specs.declared.unready.Unready.{Unready}
 use Rattle.output_files.specs.declared.error.OutputError.{OutputError}

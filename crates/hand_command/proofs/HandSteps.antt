@@ -9,7 +9,7 @@ use Rattle.world_io.specs.World.{Shown}
 use Rattle.recovery_world.specs.declared.event.Event.{Event}
 use Rattle.recovery_world.specs.World.{Setting, World as SystemWorld, opening}
 use Rattle.recovery_world.specs.Files.{Performs, done_line}
-use Rattle.recovery_core.specs.Systems.{Systemed}
+use Rattle.run_command.specs.FromRecoveryCore.{Systemed}
 use Rattle.handover.specs.declared.image.Image.{Image}
 use Rattle.handover.specs.Images.{FitsImage}
 use Rattle.handover_world.specs.Counted.{IsCounted}

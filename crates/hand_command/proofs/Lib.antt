@@ -3,3 +3,4 @@ pub mod HandSteps
 pub mod HandEnds
 pub mod Resuming
 pub mod ImageTexts
+pub mod FromRunCommand

@@ -9,7 +9,7 @@ use Rattle.world_io.specs.World.{Shown}
 use Rattle.recovery_world.specs.declared.event.Event.{Event}
 use Rattle.recovery_world.specs.World.{Setting, Sent, World as SystemWorld, opening}
 use Rattle.recovery_world.specs.Files.{Leaves, done_line, moves_made, sent_names}
-use Rattle.recovery_core.specs.Systems.{Systemed, SystemStands}
+use Rattle.run_command.specs.FromRecoveryCore.{Systemed, SystemStands}
 use Rattle.handover.specs.declared.image.Image.{Image}
 use Rattle.handover_world.specs.declared.fault.ResumeError.{ResumeError}
 use Rattle.handover_world.specs.declared.fault.ResumeError.TheVariants.{Count, Move, Released, NoMemory}

@@ -12,3 +12,4 @@ pub use error::{GoOnError, HandError};
 pub use hand::{HandFiles, run_hand};
 pub use laws::hand_and_resume_are_one_run;
 pub use resume::run_resume;
+pub use run_command::{run_from, run_script};

@@ -22,8 +22,8 @@ use Rattle.system_parts.specs.Parts.{Parts}
 use Rattle.system_parts.specs.SystemStanding.{StandsFor}
 use Rattle.system_parts.specs.Performing.{MovesOn, StopsAt, ComesTo, Releasing, WouldPass}
 use Rattle.system_parts.proofs.EventChains.{moves_as, stops_as}
-use Rattle.output_releases.proofs.QuietEvents.{quiet_on}
-use Rattle.output_releases.proofs.ReleasedLists.{releases_none, releases_after}
+use Rattle.message_arrivals.proofs.FromOutputReleases.{quiet_on}
+use Rattle.message_arrivals.proofs.FromOutputReleases.{releases_none, releases_after}
 use Rattle.thread_steps.specs.Stepping.{Notes, NotesMove, AddsEntry, MakesNext}
 use Rattle.held_steps.specs.Holding.{HoldsMade, NotesMade, NotesHeld, StepsHeld}
 use Rattle.held_steps.proofs.MadeEntries.{spelled, sends}

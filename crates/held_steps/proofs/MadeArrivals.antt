@@ -23,8 +23,8 @@ use Rattle.system_parts.specs.Parts.{Parts}
 use Rattle.system_parts.specs.SystemStanding.{StandsFor}
 use Rattle.system_parts.specs.Performing.{ReleasesInto}
 use Rattle.system_parts.proofs.EventChains.{threads_of_setting}
-use Rattle.output_releases.specs.Released.{names_of}
-use Rattle.output_releases.proofs.Answering.{AnswersTo}
+use Rattle.message_arrivals.specs.FromOutputReleases.{names_of}
+use Rattle.message_arrivals.proofs.FromOutputReleases.{AnswersTo}
 use Rattle.message_arrivals.proofs.EntryArrivals.{IsOfPast, log_new}
 use Rattle.held_steps.specs.Holding.{HoldsMade}
 use Rattle.held_steps.proofs.MadeEntries.{spelled, forgets, next_fresh}

@@ -5,3 +5,4 @@ mod holding;
 mod stepping;
 
 pub use stepping::step_held;
+pub use thread_steps::input_of;

@@ -1,9 +1,9 @@
 -- The inputs of a thread behind their tags are those of the packets behind their tags.
 use Rattle.std.proofs.Common.{◌≡◌, ℕ, ◌-◌, Bool, true, false, List, [], ◌∷◌, refl, sym, ap, ◌∙◌, cond, arith}
 use Rattle.std.specs.Prelude.{map, ◌==◌}
-use Rattle.plain_text.specs.declared.packet.Packet.{Packet}
+use Rattle.tagged_frames.specs.FromPlainText.{Packet}
 use Rattle.tagged_frames.specs.Tags.{behind_tag}
-use Rattle.packet_headers.specs.View.{viewed}
+use Rattle.tagged_frames.specs.FromPacketHeaders.{viewed}
 use Rattle.input_logger.specs.Inputs.{thread_of, thread_of_view, inputs_of}
 
 behind_none : (p : Packet) → behind_tag false p ≡ p

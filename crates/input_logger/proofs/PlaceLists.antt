@@ -9,10 +9,10 @@ use Rattle.std.proofs.lemmas.Option.{slice_get-map, slice_get-get_or, slice_get_
 use Rattle.std.proofs.lemmas.Bool.{cases_eq}
 use Rattle.std.proofs.lemmas.Bool.Decides.{nat_tests}
 use Rattle.std.proofs.lemmas.Nat.{mod_below}
-use Rattle.packet_headers.specs.declared.flow.Flow.{Flow}
-use Rattle.packet_headers.specs.declared.flow.NotFlow.{NotFlow}
-use Rattle.packet_headers.specs.Steering.{steering_sum}
-use Rattle.plain_text.specs.declared.packet.Packet.{Packet}
+use Rattle.tagged_frames.specs.FromPacketHeaders.{Flow}
+use Rattle.tagged_frames.specs.FromPacketHeaders.{NotFlow}
+use Rattle.tagged_frames.specs.FromPacketHeaders.{steering_sum}
+use Rattle.tagged_frames.specs.FromPlainText.{Packet}
 use Rattle.input_logger.specs.Inputs.{Fed, view_of, thread_of_view, thread_of, inputs_of, input_at}
 use Rattle.input_logger.specs.Places.{ArePlacesOf, IsIndexed}
 

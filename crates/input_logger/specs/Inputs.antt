@@ -1,11 +1,11 @@
 -- The inputs of each thread: of the fed packets, those that are steered to it.
 use Rattle.std.specs.Prelude.{ℕ, suc, zero, ◌%◌, ◌==◌, List, [], ◌∷◌, ◌++◌, filter, slice_get, Option, None, Result, Ok}
 use Rattle.std.specs.Prelude.{Err, Bool}
-use Rattle.plain_text.specs.declared.packet.Packet.{Packet}
-use Rattle.packet_headers.specs.declared.flow.Flow.{Flow}
-use Rattle.packet_headers.specs.declared.flow.NotFlow.{NotFlow}
-use Rattle.packet_headers.specs.Steering.{steering_sum}
-use Rattle.packet_headers.specs.View.{viewed}
+use Rattle.tagged_frames.specs.FromPlainText.{Packet}
+use Rattle.tagged_frames.specs.FromPacketHeaders.{Flow}
+use Rattle.tagged_frames.specs.FromPacketHeaders.{NotFlow}
+use Rattle.tagged_frames.specs.FromPacketHeaders.{steering_sum}
+use Rattle.tagged_frames.specs.FromPacketHeaders.{viewed}
 use Rattle.tagged_frames.specs.Tags.{behind_tag}
 
 -- a flow goes to the thread that its sum leaves, and all else to thread 0

@@ -1,8 +1,8 @@
 //! The laws of steering. Each is proved, and does nothing: a caller has it by the call.
 ghost use Rattle.std.specs.Prelude.{◌≡◌, ℕ, Bool, false, List, map, Ok};
-ghost use Rattle.plain_text.specs.declared.packet.Packet.{Packet};
-ghost use Rattle.packet_headers.specs.declared.flow.Flow.{Flow};
-ghost use Rattle.packet_headers.specs.Steering.{AreBothDirections};
+ghost use Rattle.tagged_frames.specs.FromPlainText.{Packet};
+ghost use Rattle.tagged_frames.specs.FromPacketHeaders.{Flow};
+ghost use Rattle.tagged_frames.specs.FromPacketHeaders.{AreBothDirections};
 ghost use Rattle.input_logger.specs.Inputs.{thread_of, view_of, inputs_of};
 ghost use Rattle.tagged_frames.specs.Tags.{behind_tag};
 

@@ -3,9 +3,9 @@ ghost use Rattle.std.specs.Option.{option_copied};
 ghost use Rattle.input_logger.specs.Inputs.{thread_of, inputs_of, input_at, with_packet};
 
 use crate::steer;
-use plain_text::{NoMemory, Packet, Packets, Sequence};
 use std::alloc::Global;
 use std::marker::Model;
+use tagged_frames::{NoMemory, Packet, Packets, Sequence};
 
 /// The packets that were fed, in order, and for each thread which of them are its inputs. Contracts see the number of
 /// threads and the packets.

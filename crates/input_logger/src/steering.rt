@@ -1,9 +1,7 @@
 ghost use Rattle.std.specs.Prelude.{◌≡◌, ◌≤◌, ◌<◌};
 ghost use Rattle.input_logger.specs.Inputs.{thread_of};
 
-use packet_headers::{steering_sum, view};
-use plain_text::Packet;
-use tagged_frames::tag_length;
+use tagged_frames::{Packet, steering_sum, tag_length, view};
 
 /// The thread that a packet is steered to: its flow's steering sum modulo the number of threads. What is not a flow
 /// goes to thread 0. Where tags are looked through, the flow is that behind the packet's tag.

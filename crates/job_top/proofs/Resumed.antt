@@ -14,8 +14,8 @@ use Rattle.run_writes.specs.declared.error.RunError.TheVariants as run_error
 use Rattle.run_writes.specs.Replies.{at_world, lines_in}
 use Rattle.run_writes.specs.Run.{HasBegunFrom, KeepsShown, OutputNames}
 use Rattle.run_writes.proofs.ScriptAnswers.{answers_perform}
-use Rattle.run_command.specs.Running.{RunsFrom, StoppedThere}
-use Rattle.run_command.proofs.WholeRun.{runs_begun}
+use Rattle.hand_command.specs.FromRunCommand.{RunsFrom, StoppedThere}
+use Rattle.hand_command.proofs.FromRunCommand.{runs_begun}
 use Rattle.hand_command.specs.Hand.{IsHandedOver}
 use Rattle.hand_command.specs.Resume.{HasHalted, HasResumed}
 use Rattle.hand_command.proofs.Resuming.{resumed_limit, resumed_whole}

@@ -22,7 +22,7 @@ use Rattle.run_writes.specs.declared.error.RunError.{RunError}
 use Rattle.run_writes.specs.declared.error.RunError.TheVariants as run_error
 use Rattle.run_writes.specs.Replies.{at_world}
 use Rattle.run_writes.specs.Run.{HasBegunFrom, KeepsOthers, KeepsShown, OutputNames}
-use Rattle.run_command.specs.Running.{RunsFrom}
+use Rattle.hand_command.specs.FromRunCommand.{RunsFrom}
 use Rattle.hand_command.specs.Hand.{IsHandedOver}
 use Rattle.hand_command.specs.Resume.{HasHalted, HasResumed}
 use Rattle.input_files.specs.declared.image_file.ImageFile.{ImageFile}

@@ -8,7 +8,7 @@ ghost use Rattle.handover.specs.declared.image.Image.{Image};
 ghost use Rattle.handover_world.specs.Faults.{IsFault};
 ghost use Rattle.input_files.specs.Files.{OpensAll, OpensFirst};
 ghost use Rattle.run_writes.specs.Run.{KeepsShown};
-ghost use Rattle.run_command.specs.Running.{IsSomewhere, IsSystemAt};
+ghost use Rattle.hand_command.specs.FromRunCommand.{IsSomewhere, IsSystemAt};
 ghost use Rattle.hand_command.specs.Hand.{IsHandedOver};
 ghost use Rattle.job_commands.specs.HandWords.{resume_inputs, resume_names_of};
 ghost use Rattle.job_commands.specs.Resume.{resumed_setting};
@@ -21,6 +21,8 @@ ghost use Rattle.job_top.specs.Resume.{resumption_of, setting_from};
 
 use box_conf::BoxKind;
 use box_program::Program;
+use drill_command::System;
+use hand_command::run_from;
 use hand_faults::hand_fault;
 use handover_world::{ResumeError, images_stand_for_worlds};
 use input_files::ImageFile;
@@ -28,8 +30,6 @@ use job_commands::{
     InputFault, ResumeSource, ResumeWords, Status, read_resume_source, read_script, run_outcome,
 };
 use plain_text::{Packets, Unit};
-use recovery_core::System;
-use run_command::run_from;
 use run_writes::RunFiles;
 use std::alloc::Global;
 use world_io::World;

@@ -27,12 +27,12 @@ use crate::picture::picture;
 use crate::resume::resume;
 use crate::trace::trace;
 use box_conf::BoxKind;
+use hand_command::run_script;
 use job_commands::{
     Command, Inputs, RunWords, Status, check_released, make_capture, outcome, play_capture,
     read_command, read_inputs, read_live_words, run_outcome,
 };
 use plain_text::Text;
-use run_command::run_script;
 use run_writes::{RunError, RunFiles, ScriptRun};
 use std::alloc::Global;
 use std::sync::Wait;

@@ -3,7 +3,7 @@ use Rattle.std.proofs.Common.{◌≡◌, ℕ, zero, suc, ◌+◌, ◌≤◌, ◌
 use Rattle.std.proofs.Common.{inr, ◌⊎◌, arith, Option, Some, None}
 use Rattle.std.specs.Prelude.{slice_get}
 use Rattle.std.proofs.lemmas.Option.{slice_get_within}
-use Rattle.plain_text.specs.declared.packet.Packet.{Packet}
+use Rattle.plain_machine.specs.FromPlainText.{Packet}
 use Rattle.entry_order.proofs.Order.{is_or}
 use Rattle.plain_machine.specs.declared.local.Local.{Local}
 use Rattle.plain_machine.specs.declared.local.Move.{Move}

@@ -1,7 +1,7 @@
 -- A line is led in one way, and a closed set has its order and its stamps in each log that keeps it.
 use Rattle.std.proofs.Common.{◌≡◌, ℕ, ◌≤◌, true, false, List, [], ◌∷◌, refl, sym, ap, ◌∙◌, subst, inl, inr, ◌⊎◌, arith}
 use Rattle.std.proofs.Common.{length, Option}
-use Rattle.plain_text.specs.declared.packet.Packet.{Packet}
+use Rattle.plain_machine.specs.FromPlainText.{Packet}
 use Rattle.entry_order.specs.Log.{Entry, IsIn, IsClosed, Keeps, Precedes, AtOnce, Through, PrecedesOrIs}
 use Rattle.entry_order.specs.Stamps.{IsStamp}
 use Rattle.entry_order.proofs.Order.{closed_down, precedes_in}

@@ -3,7 +3,7 @@ use Rattle.std.proofs.Common.{◌≡◌, ℕ, ◌+◌, ◌≤◌, ◌<◌, ◌�
 use Rattle.std.proofs.Common.{inr, ◌⊎◌, arith, Option, Some, None}
 use Rattle.std.specs.Prelude.{slice_get}
 use Rattle.std.proofs.lemmas.Bool.{cases_lt}
-use Rattle.plain_text.specs.declared.packet.Packet.{Packet}
+use Rattle.plain_machine.specs.FromPlainText.{Packet}
 use Rattle.entry_order.specs.Log.{Entry, entries, IsLog, IsIn, IsClosed, PrecedesOutput}
 use Rattle.entry_order.proofs.Order.{is_or, number_within, entry_there, entries_same, thread_by_number}
 use Rattle.plain_machine.specs.declared.emission.Emission.{Emission}

@@ -1,7 +1,7 @@
 -- A run of the plain machine stays one where its threads have more inputs.
 use Rattle.std.proofs.Common.{◌≡◌, ℕ, List, [], ◌∷◌, Some}
 use Rattle.std.specs.Prelude.{slice_get}
-use Rattle.plain_text.specs.declared.packet.Packet.{Packet}
+use Rattle.plain_machine.specs.FromPlainText.{Packet}
 use Rattle.plain_machine.specs.Program.{Meaning}
 use Rattle.plain_machine.specs.History.{Step, IsHistory}
 use Rattle.line_order.proofs.QuietMoves.{more_inputs}

@@ -1,7 +1,7 @@
 -- Bytes are the frame of one value at most, and are read without a fault.
 use Rattle.std.proofs.Common.{◌≡◌, ℕ, List, Result, Err, length, subst}
-use Rattle.access_log.specs.declared.entry.StampedEntry.{StampedEntry}
-use Rattle.access_log.specs.declared.entry.Output.{Output}
+use Rattle.wire_frames.specs.FromAccessLog.{StampedEntry}
+use Rattle.wire_frames.specs.FromAccessLog.{Output}
 use Rattle.wire_frames.specs.declared.frame.Frame.{Frame}
 use Rattle.wire_frames.specs.declared.frame.Frame.TheVariants as frame
 use Rattle.wire_frames.specs.declared.frame.FrameError.{FrameError}

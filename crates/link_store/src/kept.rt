@@ -1,16 +1,16 @@
 ghost use Rattle.std.specs.Prelude.{◌≡◌, ◌<◌, ◌^◌, ℕ, Some, IfOk, slice_index};
-ghost use Rattle.access_log.specs.declared.entry.Output.{Output as OutputValue};
-ghost use Rattle.access_log.specs.declared.entry.StampedEntry.{StampedEntry as EntryValue};
+ghost use Rattle.wire_frames.specs.FromAccessLog.{Output as OutputValue};
+ghost use Rattle.wire_frames.specs.FromAccessLog.{StampedEntry as EntryValue};
 ghost use Rattle.wire_frames.specs.declared.frame.Frame.TheVariants as frame_is;
 ghost use Rattle.wire_frames.specs.Layout.{written, IsFrame};
 ghost use Rattle.wire_frames.specs.Writing.{CanPutOutput};
 
 use crate::reading::{entry_in, output_in};
-use access_log::{Output, StampedEntry, copy_output};
 use plain_text::{Bytes, NoMemory};
 use std::alloc::Global;
 use std::boxed::Box;
 use std::marker::Model;
+use wire_frames::{Output, StampedEntry, copy_output};
 
 /// An output with what its frame says of its sender.
 #[derive(Debug, Drop)]

@@ -11,11 +11,11 @@ ghost use Rattle.link_store.specs.Runs.{ForgetsEach};
 
 use crate::run::Run;
 use crate::{Address, KeptFrame};
-use access_log::Output;
 use plain_text::{Bytes, Kind, NoMemory};
 use std::alloc::Global;
 use std::collections::BTreeMap;
 use std::marker::Model;
+use wire_frames::Output;
 
 /// The most runs of frames: as many as a master of 16 threads needs in one epoch, and some more.
 const MOST_RUNS: usize = 64;

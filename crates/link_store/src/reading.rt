@@ -1,14 +1,13 @@
 ghost use Rattle.std.specs.Prelude.{◌≡◌, ℕ, Some, IfOk};
-ghost use Rattle.access_log.specs.declared.entry.Output.{Output as OutputValue};
-ghost use Rattle.access_log.specs.declared.entry.StampedEntry.{StampedEntry as EntryValue};
+ghost use Rattle.wire_frames.specs.FromAccessLog.{Output as OutputValue};
+ghost use Rattle.wire_frames.specs.FromAccessLog.{StampedEntry as EntryValue};
 ghost use Rattle.wire_frames.specs.declared.frame.Frame.{Frame as FrameValue};
 ghost use Rattle.wire_frames.specs.declared.frame.Frame.TheVariants as frame_is;
 ghost use Rattle.wire_frames.specs.Layout.{IsFrame};
 
-use access_log::{Output, StampedEntry};
 use plain_text::NoMemory;
 use std::alloc::Global;
-use wire_frames::{Frame, FrameError, take_frame};
+use wire_frames::{Frame, FrameError, Output, StampedEntry, take_frame};
 
 /// The entry of a frame, if it is that of an entry. It answers that memory ran out where a component of the stamp is
 /// 2^32 or more, as in no frame that was sent.

@@ -7,7 +7,7 @@ use Rattle.recovery_world.specs.declared.event.Event.{Event}
 use Rattle.recovery_world.specs.World.{Setting, World as SystemWorld}
 use Rattle.recovery_world.specs.Files.{Rests}
 use Rattle.recovery_world.specs.Many.{Message, arrival}
-use Rattle.recovery_core.specs.Systems.{Systemed}
+use Rattle.run_command.specs.FromRecoveryCore.{Systemed}
 use Rattle.output_files.specs.Writes.{KeepsOutputs}
 use Rattle.run_writes.specs.declared.error.RunError.{RunError}
 use Rattle.std.specs.Prelude.{IfOk, OnOk}

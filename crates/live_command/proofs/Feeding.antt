@@ -10,7 +10,7 @@ use Rattle.recovery_world.specs.Events.{On, OnRecover}
 use Rattle.recovery_world.specs.Files.{Goes, Rests}
 use Rattle.recovery_world.specs.Many.{OnAny, Several, Single, begins}
 use Rattle.recovery_world.specs.World.{Setting, Sent, World as SystemWorld}
-use Rattle.recovery_core.specs.Systems.{Systemed}
+use Rattle.run_command.specs.FromRecoveryCore.{Systemed}
 use Rattle.run_writes.specs.declared.error.RunError.{RunError}
 use Rattle.std.specs.Prelude.{OnOk}
 use Rattle.run_command.specs.Running.{IsSomewhere, IsSystemAt}

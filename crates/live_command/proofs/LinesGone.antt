@@ -10,7 +10,7 @@ use Rattle.recovery_world.specs.declared.event.Event.{Event}
 use Rattle.recovery_world.specs.declared.event.Event.TheVariants as event
 use Rattle.recovery_world.specs.Many.{Message}
 use Rattle.recovery_world.specs.World.{Setting, World as SystemWorld, opening}
-use Rattle.recovery_core.specs.Systems.{Systemed}
+use Rattle.run_command.specs.FromRecoveryCore.{Systemed}
 use Rattle.run_command.specs.Running.{IsSomewhere}
 use Rattle.run_writes.specs.declared.error.RunError.{RunError}
 use Rattle.run_writes.specs.declared.error.RunError.TheVariants as run

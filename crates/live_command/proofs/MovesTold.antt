@@ -7,7 +7,7 @@ use Rattle.plain_machine.specs.Program.{Meaning}
 use Rattle.recovery_world.specs.declared.event.Event.{Event}
 use Rattle.event_replies.specs.declared.reply.Reply.{Reply as SystemReply}
 use Rattle.event_replies.specs.declared.reply.Stop.{Stop}
-use Rattle.recovery_core.specs.Systems.{Systemed}
+use Rattle.run_command.specs.FromRecoveryCore.{Systemed}
 use Rattle.run_command.specs.Running.{ComesTo}
 use Rattle.live_command.specs.Going.{MovesBy}
 use Rattle.live_command.proofs.TellingSteps.{does_one}

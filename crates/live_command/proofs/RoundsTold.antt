@@ -17,7 +17,7 @@ use Rattle.recovery_world.specs.declared.event.Event.{Event}
 use Rattle.recovery_world.specs.declared.event.Event.TheVariants as event
 use Rattle.recovery_world.specs.Many.{Message}
 use Rattle.recovery_world.specs.World.{Setting, World as SystemWorld, inputs_fed}
-use Rattle.recovery_core.specs.Systems.{Systemed, SystemStands}
+use Rattle.run_command.specs.FromRecoveryCore.{Systemed, SystemStands}
 use Rattle.recovery_world.specs.Many.{SingleStops}
 use Rattle.recovery_world.specs.Files.{packets_of}
 use Rattle.output_files.specs.declared.error.OutputError.{OutputError}
@@ -30,9 +30,9 @@ use Rattle.run_writes.specs.Run.{WritesUntil, release_writes, writes_of}
 use Rattle.script_text.specs.Scripts.{script_text}
 use Rattle.run_writes.specs.declared.error.RunError.{RunError}
 use Rattle.run_command.specs.Running.{IsSomewhere, IsSystemAt}
-use Rattle.round_join.specs.declared.noting.Noted.{Noted}
-use Rattle.round_join.specs.Racing.{StoppedAt, events_noted, lines_noted}
-use Rattle.round_join.proofs.NotedEvents.{noted_perform}
+use Rattle.live_workers.specs.FromRoundJoin.{Noted}
+use Rattle.live_workers.specs.FromRoundJoin.{StoppedAt, events_noted, lines_noted}
+use Rattle.live_workers.proofs.FromRoundJoin.{noted_perform}
 use Rattle.plan_script.specs.Orders.{AreLeft, Orders, first_ones}
 use Rattle.plan_script.specs.Rounds.{AreWoven, Does, HasStopped, IsRace, IsRound, arrival_events, frames_of, of_thread}
 use Rattle.plan_script.specs.Rounds.{step_events}

@@ -11,7 +11,7 @@ use Rattle.world_io.specs.World.{Shown}
 use Rattle.recovery_world.specs.declared.event.Event.{Event}
 use Rattle.recovery_world.specs.World.{Setting, World as SystemWorld, opening}
 use Rattle.recovery_world.specs.Files.{packets_of}
-use Rattle.recovery_core.specs.Systems.{Systemed}
+use Rattle.run_command.specs.FromRecoveryCore.{Systemed}
 use Rattle.output_files.specs.declared.error.OutputError.{OutputError}
 use Rattle.output_files.specs.declared.error.OutputError.TheVariants as output
 use Rattle.output_files.specs.Writes.{report_file, Write, Creates, after_writes, reported, HasWritten, HasBegun}

@@ -8,7 +8,7 @@ use Rattle.world_io.specs.World.{Shown}
 use Rattle.recovery_world.specs.declared.event.Event.{Event}
 use Rattle.recovery_world.specs.Many.{all_messages}
 use Rattle.recovery_world.specs.World.{Setting, World as SystemWorld}
-use Rattle.recovery_core.specs.Systems.{Systemed}
+use Rattle.run_command.specs.FromRecoveryCore.{Systemed}
 use Rattle.run_writes.specs.declared.error.RunError.{RunError}
 use Rattle.plan_script.specs.Orders.{Orders, no_orders}
 use Rattle.plan_script.specs.Rounds.{Does, IsRound, arrival_events}

@@ -15,8 +15,8 @@ use Rattle.output_files.specs.declared.error.OutputError.{OutputError}
 use Rattle.output_files.specs.declared.error.OutputError.TheVariants as output
 use Rattle.run_writes.specs.declared.error.RunError.{RunError}
 use Rattle.run_writes.specs.Errors.{run_result_of}
-use Rattle.round_join.specs.declared.noting.Noted.{Noted}
-use Rattle.round_join.specs.Racing.{PerformsNoted, NoneNoted, OneMore, event_noted, events_noted}
+use Rattle.live_workers.specs.FromRoundJoin.{Noted}
+use Rattle.live_workers.specs.FromRoundJoin.{PerformsNoted, NoneNoted, OneMore, event_noted, events_noted}
 use Rattle.plan_script.specs.Begun.{AreFirstOf}
 use Rattle.live_writes.specs.Outputs.{LiveOutputs}
 use Rattle.live_writes.specs.Script.{Scripted}

@@ -16,7 +16,7 @@ use Rattle.recovery_world.specs.Files.{Goes as Performed, Rests, reply_line, sen
 use Rattle.event_replies.specs.declared.reply.Reply.{Reply as SystemReply}
 use Rattle.event_replies.specs.declared.reply.Stop.{Stop}
 use Rattle.event_replies.specs.declared.reply.Stop.TheVariants as stop
-use Rattle.recovery_core.specs.Systems.{Systemed}
+use Rattle.run_command.specs.FromRecoveryCore.{Systemed}
 use Rattle.output_files.specs.declared.error.OutputError.{OutputError}
 use Rattle.output_files.specs.declared.error.OutputError.TheVariants as output
 use Rattle.output_files.specs.Writes.{Write, HasBegun, HasWritten}

@@ -8,7 +8,7 @@ use Rattle.recovery_world.specs.declared.event.Event.{Event}
 use Rattle.recovery_world.specs.declared.event.Event.TheVariants as event
 use Rattle.recovery_world.specs.Many.{Message}
 use Rattle.recovery_world.specs.World.{Setting, World as SystemWorld}
-use Rattle.recovery_core.specs.Systems.{Systemed}
+use Rattle.run_command.specs.FromRecoveryCore.{Systemed}
 use Rattle.run_writes.specs.declared.error.RunError.{RunError}
 use Rattle.run_command.specs.Running.{IsSystemAt}
 use Rattle.plan_script.specs.declared.plan.PlanLine.{PlanLine}
@@ -16,8 +16,8 @@ use Rattle.plan_script.specs.declared.plan.PlanLine.TheVariants as line
 use Rattle.plan_script.specs.Orders.{Orders, orders_after}
 use Rattle.plain_machine.specs.declared.plain_move.PlainMove.{PlainMove}
 use Rattle.plain_machine.specs.History.{Step}
-use Rattle.round_join.specs.declared.noting.Noted.{Noted}
-use Rattle.round_join.specs.Racing.{StoppedAt}
+use Rattle.live_workers.specs.FromRoundJoin.{Noted}
+use Rattle.live_workers.specs.FromRoundJoin.{StoppedAt}
 use Rattle.plan_script.specs.Rounds.{AreWoven, Does, IsRound, arrival_events, step_events}
 use Rattle.plan_script.specs.Scripts.{OnSettle, Wakes, feeding}
 use Rattle.plan_script.specs.Begun.{AreFirstOf, BeginsPart, BeginsRound, BeginsSettle, IsCutRace}

@@ -6,7 +6,7 @@ use Rattle.plain_machine.specs.History.{Step, log_of}
 use Rattle.replay_guide.specs.Worlds.{Guides}
 use Rattle.recovery_world.specs.declared.event.Event.{Event}
 use Rattle.recovery_world.specs.World.{Setting, World}
-use Rattle.round_join.specs.Racing.{steps_by}
+use Rattle.live_workers.specs.FromRoundJoin.{steps_by}
 use Rattle.plan_script.specs.declared.plan.PlanLine.{PlanLine}
 use Rattle.plan_script.specs.declared.plan.PlanLine.TheVariants as line
 use Rattle.plan_script.specs.Orders.{Orders, orders_after}

@@ -1,6 +1,6 @@
 use box_program::Program;
 use live_workers::Draws;
-use recovery_core::System;
+use run_command::System;
 
 /// A system, and the generators of its racing threads.
 #[derive(Drop)]

@@ -11,16 +11,16 @@ ghost use Rattle.recovery_world.specs.World.{Setting, World as SystemWorld};
 ghost use Rattle.recovery_world.specs.Limits.{OnWithin};
 ghost use Rattle.output_files.specs.Writes.{IsOutput, KeepsOutputs};
 ghost use Rattle.output_files.specs.Written.{OnlyWrites};
-ghost use Rattle.round_join.specs.Racing.{PerformsNoted, event_noted, events_noted};
+ghost use Rattle.live_workers.specs.FromRoundJoin.{PerformsNoted, event_noted, events_noted};
 ghost use Rattle.live_writes.specs.Outputs.{AreApart, LiveOutputs};
 ghost use Rattle.live_writes.specs.Told.{HasTold};
 ghost use Rattle.live_command.specs.Going.{NotesOver};
 
 use crate::writing::{add_line, gather};
+use live_workers::Noted;
 use live_writes::Script;
 use plain_text::{Bytes, NoMemory};
 use recovery_world::{Event, Outcome};
-use round_join::Noted;
 use run_writes::{RunError, written};
 use script_text::{write_event, write_outcome};
 use std::alloc::Global;

@@ -7,3 +7,4 @@ pub mod ReadyThreads
 pub mod RoundSteps
 pub mod Rounding
 pub mod WorkingLemmas
+pub mod FromRoundJoin

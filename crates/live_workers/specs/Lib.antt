@@ -5,3 +5,4 @@ pub mod Racing
 pub mod Rounds
 pub mod Telling
 pub mod Working
+pub mod FromRoundJoin

@@ -10,4 +10,5 @@ mod rounds;
 mod working;
 
 pub use draws::Draws;
+pub use round_join::Noted;
 pub use rounds::{RoundDone, RoundStop, round};

@@ -21,13 +21,12 @@ use frame_intake::{FrameName, RoundOrders};
 use master_core::Master;
 use plain_machine::PlainMove;
 use plain_text::{Limit, MOST_MOVES, NoMemory};
-use recovery_core::{System, SystemParted};
+use recovery_core::{Rest, System, SystemParted};
 use round_join::{Moves, NoteStop, Noted, note_round};
 use round_order::Marks;
 use std::alloc::Global;
 use std::sync::Wait;
 use std::thread::Threads;
-use system_rest::Rest;
 use var_locks::Gate;
 use world_io::Clock;
 

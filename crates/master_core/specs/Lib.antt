@@ -6,3 +6,4 @@ pub mod Effects
 pub mod Lists
 pub mod Holding
 pub mod Deltas
+pub mod FromBoxProgram

@@ -17,6 +17,7 @@ mod wants;
 
 pub use access_log::Turn;
 pub use bounds::standing_masters_are_bounded;
+pub use box_program::Program;
 pub use counting::entries_are_counted;
 pub use laws::{
     closed_part_is_defined, covering_a_later_moment, fresh_lanes_hold_nothing,

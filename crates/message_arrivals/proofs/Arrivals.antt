@@ -23,14 +23,14 @@ use Rattle.recovery_world.specs.declared.event.Outcome.TheVariants as outcome
 use Rattle.recovery_world.specs.World.{Setting, Sent, Ended as EndedEpoch, World, inputs_fed}
 use Rattle.recovery_world.specs.Events.{EndedWith, count_of, WasSent, IsFrameLength, HasNone, On}
 use Rattle.master_core.specs.declared.parts.Counts.{Counts}
-use Rattle.event_replies.specs.declared.reply.Reply.{Reply}
+use Rattle.output_releases.specs.FromEventReplies.{Reply}
 use Rattle.sent_frames.specs.Sending.{length_at, lengths_of, entry_size, output_size}
-use Rattle.system_parts.specs.Parts.{Parts}
-use Rattle.system_parts.specs.SystemStanding.{AreCounts, StandsFor}
-use Rattle.system_parts.specs.Performing.{MovesOn, Releasing, Replies}
+use Rattle.output_releases.specs.FromSystemParts.{Parts}
+use Rattle.output_releases.specs.FromSystemParts.{AreCounts, StandsFor}
+use Rattle.output_releases.specs.FromSystemParts.{MovesOn, Releasing, Replies}
 use Rattle.message_arrivals.specs.Arriving.{HadSent, arrival_of, counted}
 use Rattle.output_releases.proofs.Answering.{in_setting}
-use Rattle.system_parts.proofs.OutputNumbers.{output_there}
+use Rattle.output_releases.proofs.FromSystemParts.{output_there}
 use Rattle.message_arrivals.proofs.ThreadCounts.{entry_long, output_long}
 
 -- what the one comes to, the other comes to

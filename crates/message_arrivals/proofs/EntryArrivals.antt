@@ -38,16 +38,16 @@ use Rattle.recovery_world.specs.declared.event.Outcome.{Outcome}
 use Rattle.recovery_world.specs.declared.event.Outcome.TheVariants as outcome
 use Rattle.recovery_world.specs.World.{Setting, Sent, World, inputs_fed}
 use Rattle.recovery_world.specs.Events.{IsKnown, IsEntryOf, MayGo, On, Parts as WorldParts, entries_of_line}
-use Rattle.recovery_laws.proofs.KeptWorlds.{within_sound}
-use Rattle.event_replies.specs.declared.reply.Reply.{Reply}
+use Rattle.output_releases.proofs.FromRecoveryLaws.{within_sound}
+use Rattle.output_releases.specs.FromEventReplies.{Reply}
 use Rattle.sent_frames.specs.Sending.{Sending, length_at, lengths_of, entry_address, output_address, HasEntryFrame}
 use Rattle.sent_frames.specs.Sending.{HasOutputFrame, ForgetsEntries}
-use Rattle.system_parts.specs.Parts.{Parts, AreParts}
-use Rattle.system_parts.specs.SystemStanding.{IsSentEntry, IsSentOutput, AreOutputs, StandsFor}
+use Rattle.output_releases.specs.FromSystemParts.{Parts, AreParts}
+use Rattle.output_releases.specs.FromSystemParts.{IsSentEntry, IsSentOutput, AreOutputs, StandsFor}
 use Rattle.output_releases.specs.Released.{names_of, NotesReleased}
-use Rattle.system_parts.proofs.LineLemmas.{line_log, past_in, past_stamp, past_of_line, holds_log, known_there}
-use Rattle.system_parts.proofs.LineLemmas.{there_known, frontiers}
-use Rattle.system_parts.proofs.SnapshotLemmas.{marks_stay}
+use Rattle.output_releases.proofs.FromSystemParts.{line_log, past_in, past_stamp, past_of_line, holds_log, known_there}
+use Rattle.output_releases.proofs.FromSystemParts.{there_known, frontiers}
+use Rattle.output_releases.proofs.FromSystemParts.{marks_stay}
 use Rattle.output_releases.proofs.OutputLists.{parts_world, names_as, names_more, noted_more, releases_as}
 use Rattle.output_releases.proofs.Answering.{AnswersTo, in_setting, stays}
 

@@ -9,10 +9,10 @@ use Rattle.dup_filter.specs.Numbers.{numbers}
 use Rattle.link_store.specs.Links.{address, frame_at}
 use Rattle.recovery_world.specs.declared.event.Outcome.{Outcome}
 use Rattle.recovery_world.specs.declared.event.Outcome.TheVariants as outcome
-use Rattle.event_replies.specs.declared.reply.Reply.{Reply}
+use Rattle.output_releases.specs.FromEventReplies.{Reply}
 use Rattle.output_logger.specs.Logger.{Logger}
 use Rattle.sent_frames.specs.Sending.{Sending, entry_address, output_address, ForgetsEntries, ForgetsOutputs}
-use Rattle.system_parts.specs.Parts.{Parts}
+use Rattle.output_releases.specs.FromSystemParts.{Parts}
 use Rattle.output_releases.specs.Released.{NotesReleased, ForgetsReleased, AreForgotten}
 use Rattle.message_arrivals.specs.Arriving.{KnownAreForgotten, ForgetsTaken}
 

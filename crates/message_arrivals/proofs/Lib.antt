@@ -3,3 +3,4 @@ pub mod OutputArrivals
 pub mod Arrivals
 pub mod Forgetting
 pub mod ThreadCounts
+pub mod FromOutputReleases

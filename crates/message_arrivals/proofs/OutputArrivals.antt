@@ -30,18 +30,18 @@ use Rattle.recovery_world.specs.declared.event.Outcome.TheVariants as outcome
 use Rattle.recovery_world.specs.World.{Setting, Sent, World, inputs_fed}
 use Rattle.recovery_world.specs.Events.{HasNumber, IsOutputOf, HasArrived, IsAmong, MayGo, On, entries_of_line}
 use Rattle.recovery_world.specs.Files.{sent_names}
-use Rattle.recovery_laws.proofs.KeptWorlds.{within_sound}
-use Rattle.recovery_laws.proofs.Settlings.{number_high}
-use Rattle.event_replies.specs.declared.reply.Reply.{Reply}
+use Rattle.output_releases.proofs.FromRecoveryLaws.{within_sound}
+use Rattle.output_releases.proofs.FromRecoveryLaws.{number_high}
+use Rattle.output_releases.specs.FromEventReplies.{Reply}
 use Rattle.sent_frames.specs.Sending.{Sending, output_address, HasOutputFrame}
-use Rattle.system_parts.specs.Parts.{Parts}
-use Rattle.system_parts.specs.SystemStanding.{IsSentEntry, IsSentOutput, AreOutputs, StandsFor}
+use Rattle.output_releases.specs.FromSystemParts.{Parts}
+use Rattle.output_releases.specs.FromSystemParts.{IsSentEntry, IsSentOutput, AreOutputs, StandsFor}
 use Rattle.output_releases.proofs.OutputLists.{outputs_more, named_as, noted_more, releases_as, sent_names_both}
 use Rattle.output_releases.proofs.ReleasedLists.{releases_none}
-use Rattle.system_parts.proofs.OutputNumbers.{output_from_one}
-use Rattle.system_parts.proofs.OutputsSent.{there_sent}
-use Rattle.system_parts.proofs.LineLemmas.{frontiers}
-use Rattle.system_parts.proofs.SnapshotLemmas.{marks_stay}
+use Rattle.output_releases.proofs.FromSystemParts.{output_from_one}
+use Rattle.output_releases.proofs.FromSystemParts.{there_sent}
+use Rattle.output_releases.proofs.FromSystemParts.{frontiers}
+use Rattle.output_releases.proofs.FromSystemParts.{marks_stay}
 use Rattle.link_store.specs.Links.{frame_at}
 use Rattle.output_releases.proofs.Answering.{AnswersTo, in_setting, stays}
 

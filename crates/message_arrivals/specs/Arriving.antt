@@ -9,9 +9,9 @@ use Rattle.master_core.specs.declared.parts.Counts.{Counts}
 use Rattle.recovery_world.specs.declared.event.Event.{Event}
 use Rattle.recovery_world.specs.declared.event.Event.TheVariants as event
 use Rattle.recovery_world.specs.declared.event.Outcome.TheVariants as outcome
-use Rattle.event_replies.specs.declared.reply.Reply.{Reply}
+use Rattle.output_releases.specs.FromEventReplies.{Reply}
 use Rattle.sent_frames.specs.Sending.{Sending, entry_address, output_address}
-use Rattle.system_parts.specs.Parts.{Parts}
+use Rattle.output_releases.specs.FromSystemParts.{Parts}
 use Rattle.output_releases.specs.Released.{AreForgotten}
 
 -- entry or output n of thread t arrives

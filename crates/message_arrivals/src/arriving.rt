@@ -1,18 +1,16 @@
 ghost use Rattle.std.specs.Prelude.{◌≡◌, ◌<◌, ◌≤◌, ◌++◌, ◌↔◌, IsTrue, [], IfOk, OnOk, length};
 ghost use Rattle.recovery_world.specs.declared.event.Event.TheVariants as event_is;
-ghost use Rattle.system_parts.specs.SystemStanding.{StandsForSome};
+ghost use Rattle.output_releases.specs.FromSystemParts.{StandsForSome};
 ghost use Rattle.message_arrivals.specs.Arriving.{HadSent, arrival_of, ForgetsTaken};
-ghost use Rattle.system_parts.specs.Performing.{Appends, MovesOn, Releasing, Replies};
+ghost use Rattle.output_releases.specs.FromSystemParts.{Appends, MovesOn, Releasing, Replies};
 
 use access_log::Outputs;
 use box_program::Program;
-use event_replies::{Reply, only};
 use master_core::Counts;
 use output_logger::{EntryTook, OutputTook};
-use output_releases::{forget_some, note_released};
+use output_releases::{Core, Reply, forget_some, note_released, only};
 use plain_text::{Kind, NoMemory, Sequence};
 use recovery_world::Outcome;
-use system_parts::Core;
 
 /// An entry of a thread arrives at the output logger.
 fn take_entry<P: Program>(

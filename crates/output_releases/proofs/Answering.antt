@@ -6,13 +6,13 @@ use Rattle.access_log.specs.declared.entry.Output.{Output}
 use Rattle.input_logger.specs.Inputs.{Fed}
 use Rattle.plain_machine.specs.Program.{Meaning}
 use Rattle.plain_machine.specs.History.{log_of, sent_of, outputs}
-use Rattle.master_core.specs.declared.parts.Counts.{Counts}
-use Rattle.master_core.specs.declared.parts.ThreadPart.{ThreadPart}
+use Rattle.system_parts.specs.FromMasterCore.{Counts}
+use Rattle.system_parts.specs.FromMasterCore.{ThreadPart}
 use Rattle.recovery_world.specs.declared.event.Event.{Event}
 use Rattle.recovery_world.specs.declared.event.Outcome.{Outcome}
 use Rattle.recovery_world.specs.World.{Setting, World}
 use Rattle.recovery_world.specs.Events.{On}
-use Rattle.event_replies.specs.declared.reply.Reply.{Reply}
+use Rattle.system_parts.specs.FromEventReplies.{Reply}
 use Rattle.system_parts.specs.Parts.{Parts}
 use Rattle.system_parts.specs.SystemStanding.{StandsFor, StandsForSome}
 use Rattle.system_parts.specs.Performing.{MovesOn, Releasing, Replies}

@@ -8,13 +8,13 @@ use Rattle.entry_order.specs.Stamps.{IsOutputStamp}
 use Rattle.access_log.specs.declared.entry.Output.{Output}
 use Rattle.dup_filter.specs.Numbers.{Numbers, WasMarked}
 use Rattle.plain_machine.specs.declared.emission.Emission.{Emission}
-use Rattle.master_core.specs.Stepping.{emission_of_output}
+use Rattle.system_parts.specs.FromMasterCore.{emission_of_output}
 use Rattle.output_logger.specs.Logger.{IsNamed, ReleasesOnce, appended, Parts as LoggerParts}
 use Rattle.recovery_world.specs.World.{Sent, World}
 use Rattle.recovery_world.specs.Events.{HasNumber, IsAmong, Parts as WorldParts}
 use Rattle.recovery_world.specs.Files.{sent_names, packets_of}
-use Rattle.recovery_laws.proofs.Sets.{among_either}
-use Rattle.recovery_laws.proofs.Settlings.{among_left, among_right}
+use Rattle.system_parts.proofs.FromRecoveryLaws.{among_either}
+use Rattle.system_parts.proofs.FromRecoveryLaws.{among_left, among_right}
 use Rattle.output_releases.specs.Released.{names_of, NotesReleased}
 use Rattle.system_parts.specs.Parts.{Parts}
 use Rattle.system_parts.specs.SystemStanding.{AreOutputs, NotesNames}

@@ -1,1 +1,3 @@
 pub mod Released
+pub mod FromEventReplies
+pub mod FromSystemParts

@@ -4,3 +4,4 @@
 mod releasing;
 
 pub use releasing::{forget_released, forget_some, note_released};
+pub use system_parts::{Core, Reply, only};

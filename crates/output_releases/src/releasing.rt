@@ -5,10 +5,9 @@ ghost use Rattle.output_releases.specs.Released.{names_of};
 use access_log::Output;
 use box_program::Program;
 use dup_filter::Released;
-use event_replies::Releases;
 use plain_text::NoMemory;
 use sent_frames::SentFrames;
-use system_parts::Core;
+use system_parts::{Core, Releases};
 
 /// Appends the thread and number of each of these outputs.
 fn add_names(outputs: &[Output], names: &mut Releases) -> Result<(), NoMemory>

@@ -3,3 +3,4 @@ pub mod Machine
 pub mod History
 pub mod Agree
 pub mod Continue
+pub mod FromPlainText

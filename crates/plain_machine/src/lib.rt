@@ -15,3 +15,4 @@ pub use laws::{
 };
 pub use local::{Local, Move};
 pub use plain_move::{PlainMove, PlayCause, PlayFault, Schedule};
+pub use plain_text::{Bytes, NoMemory, Text};

@@ -7,7 +7,7 @@ use Rattle.recovery_world.specs.World.{Setting, World}
 use Rattle.longer_captures.specs.Longer.{with_more}
 use Rattle.system_parts.specs.Parts.{Parts}
 use Rattle.system_parts.specs.SystemStanding.{StandsFor, StandsForSome}
-use Rattle.packet_feeds.proofs.AppendLemmas.{with_behind, StandsLonger}
+use Rattle.system_images.proofs.FromPacketFeeds.{with_behind, StandsLonger}
 use Rattle.recovery_core.specs.Systems.{Systemed, SystemStands}
 
 -- The parts stand for some world afterwards.

@@ -9,14 +9,14 @@ use Rattle.plain_machine.specs.Program.{Meaning}
 use Rattle.plain_machine.specs.declared.plain_move.PlainMove.{PlainMove}
 use Rattle.recovery_world.specs.World.{Setting, Sent, World, opening}
 use Rattle.recovery_world.specs.Files.{packets_of}
-use Rattle.run_end.specs.Ending.{EndsIn}
+use Rattle.system_rest.specs.FromRunEnd.{EndsIn}
 use Rattle.system_parts.specs.Parts.{Parts}
 use Rattle.system_parts.specs.SystemStanding.{NotesNames, StandsFor}
 use Rattle.event_replies.specs.declared.reply.Finished.{Finished}
 use Rattle.system_parts.specs.Performing.{MovesOn, StopsAt, ReleasesInto, Releasing, packets_in}
 use Rattle.system_parts.proofs.ReadLemmas.{names_length, released_count}
-use Rattle.crash_recovery.specs.Recovering.{WakesUp}
-use Rattle.system_end.proofs.EndingLemmas.{ends_woken}
+use Rattle.system_images.specs.FromCrashRecovery.{WakesUp}
+use Rattle.system_images.proofs.FromSystemEnd.{ends_woken}
 use Rattle.recovery_core.specs.Systems.{Systemed, HasReleased, SystemStands, SystemMoves, SystemStops, FinishesAs}
 
 module _ {P V : Type 0} (m : Meaning V) (s : Setting V) (w : World V) (y : Parts P V) (st : StandsFor m s w y) where

@@ -17,7 +17,7 @@ use Rattle.system_parts.specs.Parts.{Parts}
 use Rattle.system_parts.specs.SystemStanding.{IsSentOutput, StandsFor}
 use Rattle.system_parts.proofs.OutputNumbers.{output_from_one}
 use Rattle.system_parts.proofs.OutputsSent.{there_sent}
-use Rattle.message_arrivals.proofs.OutputArrivals.{IsSentByPast, out_is, may_go, lacks}
+use Rattle.system_images.proofs.FromMessageArrivals.{IsSentByPast, out_is, may_go, lacks}
 use Rattle.recovery_core.specs.declared.lacking.Lacks.TheVariants as lacks_of
 use Rattle.recovery_core.specs.Lacking.{OutputLacks, WasReleased}
 

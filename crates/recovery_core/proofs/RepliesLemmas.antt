@@ -14,7 +14,7 @@ use Rattle.system_parts.specs.Performing.{MovesOn, StopsAt, Releasing, Replies, 
 use Rattle.recovery_core.specs.Systems.{RepliesAny}
 use Rattle.several_events.specs.declared.progress.Progress.{Progress}
 use Rattle.several_events.specs.Progressing.{IsBegun, Comes, SumsUp}
-use Rattle.single_events.proofs.ReplyLemmas.{only}
+use Rattle.several_events.proofs.FromSingleEvents.{only}
 
 pub replies_any : {P V : Type 0} (m : Meaning V) (ev : Event) (reply : Reply) (before out : List Output)
     (old new : Parts P V)

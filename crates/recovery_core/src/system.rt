@@ -8,7 +8,7 @@ ghost use Rattle.entry_order.specs.Log.{entries};
 ghost use Rattle.plain_machine.specs.History.{log_of, sent_of, outputs, thread_after};
 ghost use Rattle.recovery_world.specs.World.{Setting, World, opening};
 ghost use Rattle.recovery_world.specs.Files.{packets_of, sent_names};
-ghost use Rattle.run_end.specs.Ending.{EndsIn};
+ghost use Rattle.system_rest.specs.FromRunEnd.{EndsIn};
 ghost use Rattle.system_parts.specs.SystemStanding.{StandsFor, StandsForSome};
 ghost use Rattle.system_parts.specs.Performing.{Appends, MovesOn, StopsAt, Releasing, packets_in};
 ghost use Rattle.recovery_core.specs.Systems.{HasReleased, SystemStands, SystemMoves, SystemStops};
@@ -17,20 +17,16 @@ ghost use Rattle.system_parts.specs.Performing.{IsStopped};
 
 use access_log::Outputs;
 use box_program::Program;
-use crash_recovery::wake;
 use event_replies::{Finished, Releases, Reply, Stop, only};
 use master_core::Counts;
-use packet_feeds::append;
 use plain_machine::Schedule;
 use plain_text::{MOST_PACKETS, NoMemory, Packet, Packets, Unit};
 use recovery_world::Event;
-use several_events::{begin, perform_several};
-use single_events::perform_single;
+use several_events::{begin, perform_several, perform_single};
 use std::alloc::Global;
 use std::marker::Model;
 use std::mem;
-use system_end::{discard, end_awake};
-use system_opening::open_parts;
+use system_images::{append, discard, end_awake, open_parts, wake};
 use system_parts::Core;
 
 /// A recovering system on the packets of a capture: an input logger, a master that runs a box, its snapshots, the links

@@ -8,7 +8,7 @@ use Rattle.plain_text.specs.declared.limit.Limit.{Limit}
 use Rattle.plain_text.specs.declared.kind.Kind.{Kind}
 use Rattle.plain_text.specs.declared.kind.Kind.TheVariants as kind
 use Rattle.plain_text.specs.declared.packet.Packet.{Packet}
-use Rattle.input_logger.specs.Inputs.{inputs_of}
+use Rattle.recovery_world.specs.FromInputLogger.{inputs_of}
 use Rattle.entry_order.specs.Log.{Entry, entries, IsIn}
 use Rattle.entry_order.specs.Closed.{IsMissing}
 use Rattle.entry_order.proofs.Order.{is_or, number_within}
@@ -23,8 +23,8 @@ use Rattle.plain_machine.proofs.Histories.{history_log, did_emission, earlier_hi
 use Rattle.plain_machine.proofs.Agreement.{histories_agree, sends_at}
 use Rattle.plain_machine.proofs.LoggedEffects.{entry_thread}
 use Rattle.plain_machine.specs.Continue.{GoesQuietly, IsLed}
-use Rattle.line_order.proofs.Hands.{taken_within, all_taken}
-use Rattle.line_order.proofs.QuietMoves.{quiet_later}
+use Rattle.recovery_world.proofs.FromLineOrder.{taken_within, all_taken}
+use Rattle.recovery_world.proofs.FromLineOrder.{quiet_later}
 use Rattle.recovery_world.specs.declared.event.Event.{Event}
 use Rattle.recovery_world.specs.declared.event.Event.TheVariants as event
 use Rattle.recovery_world.specs.declared.event.Outcome.{Outcome}

@@ -6,3 +6,4 @@ pub mod OrderLemmas
 pub mod WorldTurns
 pub mod WorldAnswers
 pub mod WorldOrders
+pub mod FromRecoveryLaws

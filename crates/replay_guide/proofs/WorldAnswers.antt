@@ -9,8 +9,8 @@ use Rattle.plain_machine.specs.Machine.{Hand}
 use Rattle.plain_machine.specs.History.{log_of, entry_of, thread_after}
 use Rattle.access_log.specs.declared.entry.StampedEntry.{StampedEntry}
 use Rattle.access_log.specs.Held.{Lane, lane, entry_at}
-use Rattle.recovery_world.specs.World.{Setting, World}
-use Rattle.recovery_world.specs.Turns.{TellsClock, TellsDraw}
+use Rattle.recovery_laws.specs.FromRecoveryWorld.{Setting, World}
+use Rattle.recovery_laws.specs.FromRecoveryWorld.{TellsClock, TellsDraw}
 use Rattle.recovery_laws.specs.Sound.{Sound}
 use Rattle.recovery_laws.specs.Facts.{IsKindOf}
 use Rattle.recovery_laws.proofs.AskedKinds.{next_asked}

@@ -19,8 +19,8 @@ use Rattle.master_core.specs.Holding.{held_entries, HoldsOf}
 use Rattle.master_core.specs.Stamped.{IsReadersStamp}
 use Rattle.master_core.specs.Stepping.{plain_entry}
 use Rattle.master_core.proofs.HeldEntries.{held_named, at_held}
-use Rattle.recovery_world.specs.World.{Setting, World, inputs_fed}
-use Rattle.recovery_world.specs.Turns.{IsReadToCome, IsTouchToCome, IsAwaited}
+use Rattle.recovery_laws.specs.FromRecoveryWorld.{Setting, World, inputs_fed}
+use Rattle.recovery_laws.specs.FromRecoveryWorld.{IsReadToCome, IsTouchToCome, IsAwaited}
 use Rattle.recovery_laws.specs.Sound.{Sound}
 use Rattle.replay_guide.specs.Following.{Follows, CanBeFollowed}
 use Rattle.replay_guide.specs.Turns.{IsPendingRead, IsFirstPending, NoneIsPending, WaitsFor}

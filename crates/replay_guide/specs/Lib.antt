@@ -4,3 +4,4 @@ pub mod Orders
 pub mod Indexes
 pub mod Walks
 pub mod Worlds
+pub mod FromRecoveryLaws

@@ -10,6 +10,7 @@ mod running;
 
 pub use ending::close_run;
 pub use performing::{Performed, perform};
+pub use recovery_core::System;
 pub use replying::write_performed;
 pub use run::{run_from, run_script, write_events};
 pub use running::{perform_event, perform_events};

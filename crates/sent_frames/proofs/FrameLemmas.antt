@@ -5,8 +5,8 @@ use Rattle.std.proofs.Common.{arith}
 use Rattle.std.specs.Prelude.{slice_set, slice_index_or}
 use Rattle.std.proofs.lemmas.List.{get_or_default}
 use Rattle.plain_text.specs.declared.kind.Kind.TheVariants.{Log, Out}
-use Rattle.access_log.specs.declared.entry.StampedEntry.{StampedEntry}
-use Rattle.access_log.specs.declared.entry.Output.{Output}
+use Rattle.wire_frames.specs.FromAccessLog.{StampedEntry}
+use Rattle.wire_frames.specs.FromAccessLog.{Output}
 use Rattle.link_store.specs.declared.address.Address.{Address}
 use Rattle.link_store.specs.Links.{address, frame_at, Sends}
 use Rattle.wire_frames.specs.declared.frame.Frame.TheVariants as frame

@@ -2,8 +2,8 @@
 use Rattle.std.specs.Prelude.{◌≡◌, ℕ, zero, suc, ◌+◌, ◌*◌, ◌≤◌, ◌⊎◌, List, [], ◌∷◌, ◌++◌, length, replicate, slice_get}
 use Rattle.std.specs.Prelude.{slice_index, slice_index_or, slice_set, take, Option, Some, None}
 use Rattle.plain_text.specs.declared.kind.Kind.TheVariants.{Log, Out}
-use Rattle.access_log.specs.declared.entry.StampedEntry.{StampedEntry}
-use Rattle.access_log.specs.declared.entry.Output.{Output}
+use Rattle.wire_frames.specs.FromAccessLog.{StampedEntry}
+use Rattle.wire_frames.specs.FromAccessLog.{Output}
 use Rattle.link_store.specs.declared.address.Address.{Address}
 use Rattle.link_store.specs.Links.{address, frame_at, Sends, Forgets, IsUpTo, IsOfEpoch}
 use Rattle.wire_frames.specs.declared.frame.Frame.TheVariants as frame_of

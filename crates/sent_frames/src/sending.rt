@@ -1,8 +1,8 @@
 ghost use Rattle.std.specs.Prelude.{◌≡◌, ◌<◌, ◌≤◌, ◌+◌, ◌-◌, ◌^◌, ℕ, [], None, Some, IfOk, OnOk};
 ghost use Rattle.std.specs.Prelude.{length, replicate, slice_index};
 ghost use Rattle.wire_frames.specs.Parts.{FitsWord};
-ghost use Rattle.access_log.specs.declared.entry.StampedEntry.{StampedEntry};
-ghost use Rattle.access_log.specs.declared.entry.Output.{Output as OutputValue};
+ghost use Rattle.wire_frames.specs.FromAccessLog.{StampedEntry};
+ghost use Rattle.wire_frames.specs.FromAccessLog.{Output as OutputValue};
 ghost use Rattle.plain_text.specs.declared.kind.Kind.TheVariants as kind_is;
 ghost use Rattle.link_store.specs.Links.{frame_at};
 ghost use Rattle.wire_frames.specs.Writing.{CanPutEntry, CanPutOutput};
@@ -13,12 +13,13 @@ ghost use Rattle.sent_frames.specs.Sending.{HasEntryFrame, HasOutputFrame, entry
 ghost use Rattle.sent_frames.specs.Sending.{output_address, length_at};
 ghost use Rattle.sent_frames.specs.Spelled.{IsEntryFrame, IsOutputFrame};
 
-use access_log::{Output, StampedEntry, What, copy_output};
 use link_store::Links;
 use plain_text::{Bytes, Kind, NoMemory, Sequence};
 use std::alloc::Global;
 use std::marker::Model;
-use wire_frames::{entry_length, output_length, put_entry};
+use wire_frames::{
+    Output, StampedEntry, What, copy_output, entry_length, output_length, put_entry,
+};
 
 /// What a master sends on its links: each entry and each output as a frame, and how long each frame was.
 ///

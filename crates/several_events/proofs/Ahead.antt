@@ -29,7 +29,7 @@ use Rattle.held_steps.specs.Holding.{StepsHeld}
 use Rattle.system_parts.proofs.EventChains.{threads_of_setting, moves_none, moves_as}
 use Rattle.recovery_world.specs.Files.{sent_names}
 use Rattle.recovery_world.specs.declared.event.Outcome.TheVariants as outcome
-use Rattle.output_releases.proofs.ReleasedLists.{releases_none, releases_then, releases_after}
+use Rattle.held_steps.proofs.FromOutputReleases.{releases_none, releases_then, releases_after}
 use Rattle.several_events.specs.declared.progress.Progress.{Progress}
 use Rattle.several_events.specs.declared.progress.Progress.TheVariants as progress
 use Rattle.several_events.specs.Progressing.{messages_from, after_of, to_do, IsInPhase, IsOver, IsNext, Reaches, Comes}

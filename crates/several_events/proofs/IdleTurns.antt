@@ -16,11 +16,11 @@ use Rattle.recovery_world.specs.declared.event.Event.TheVariants as event
 use Rattle.recovery_world.specs.declared.event.Outcome.TheVariants as outcome
 use Rattle.recovery_world.specs.World.{Setting, World, inputs_fed}
 use Rattle.recovery_world.specs.Events.{WantsMore}
-use Rattle.run_end.proofs.InputLemmas.{hand_is}
+use Rattle.held_steps.proofs.FromRunEnd.{hand_is}
 use Rattle.system_parts.specs.Parts.{Parts}
 use Rattle.system_parts.specs.SystemStanding.{StandsFor}
 use Rattle.system_parts.specs.Performing.{MovesOn, ComesTo, Releasing}
-use Rattle.thread_steps.proofs.StepLemmas.{low_now, input_now}
+use Rattle.held_steps.proofs.FromThreadSteps.{low_now, input_now}
 use Rattle.held_steps.proofs.HeldSteps.{steps_held}
 use Rattle.several_events.specs.declared.progress.Progress.{Progress}
 use Rattle.several_events.specs.declared.progress.Progress.TheVariants as progress

@@ -8,3 +8,4 @@ pub mod ToArrive
 pub mod AheadWorlds
 pub mod FirstMessages
 pub mod Ahead
+pub mod FromSingleEvents

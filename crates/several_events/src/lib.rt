@@ -10,4 +10,5 @@ mod strategy;
 mod turns;
 
 pub use progress::Progress;
+pub use single_events::perform_single;
 pub use strategy::{begin, perform_several};

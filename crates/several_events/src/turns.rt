@@ -9,7 +9,7 @@ ghost use Rattle.several_events.specs.Ahead.{GoesOnAs};
 
 use crate::progress::{Progress, next_turn};
 use box_program::Program;
-use run_end::input_of;
+use held_steps::input_of;
 use system_parts::Core;
 
 /// Whether a thread of a master that is up has nothing to do: no packet in hand, and no input left. Then its step makes

@@ -10,8 +10,8 @@ use Rattle.event_replies.specs.declared.reply.Reply.{Reply}
 use Rattle.system_parts.specs.Parts.{Parts}
 use Rattle.system_parts.specs.SystemStanding.{StandsFor}
 use Rattle.system_parts.specs.Performing.{MovesOn, StopsAt, Releasing, ComesTo, Replies, WouldPass}
-use Rattle.output_releases.proofs.QuietEvents.{IsQuiet, quiet_on}
-use Rattle.output_releases.proofs.ReleasedLists.{releases_none}
+use Rattle.snapshot_steps.proofs.FromOutputReleases.{IsQuiet, quiet_on}
+use Rattle.snapshot_steps.proofs.FromOutputReleases.{releases_none}
 
 -- a reply that releases nothing
 abbrev pub only : Outcome → Reply

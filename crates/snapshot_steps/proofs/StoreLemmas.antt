@@ -40,8 +40,8 @@ use Rattle.master_core.proofs.CountedEntries.{entries_sum}
 use Rattle.output_logger.specs.Logger.{Logger, IsDue, ReleasesOnce, Parts as LoggerParts}
 use Rattle.recovery_world.specs.World.{Setting, Sent, World, inputs_fed}
 use Rattle.recovery_world.specs.Events.{On, MayGo, Parts as WorldParts, entries_of_line}
-use Rattle.system_parts.specs.Parts.{Parts, AreParts}
-use Rattle.system_parts.specs.SystemStanding.{AreOutputs, IsSentEntry, IsSentOutput, IsSnapshot, StandsFor}
+use Rattle.output_releases.specs.FromSystemParts.{Parts, AreParts}
+use Rattle.output_releases.specs.FromSystemParts.{AreOutputs, IsSentEntry, IsSentOutput, IsSnapshot, StandsFor}
 use Rattle.recovery_world.specs.declared.event.Event.TheVariants as event
 use Rattle.recovery_world.specs.declared.event.Outcome.{Outcome}
 use Rattle.recovery_world.specs.declared.event.Outcome.TheVariants as outcome
@@ -50,9 +50,9 @@ use Rattle.event_replies.specs.declared.reply.Reply.{Reply}
 use Rattle.sent_frames.specs.Sending.{Sending, length_at, lengths_of, entry_address, output_address, HasEntryFrame}
 use Rattle.sent_frames.specs.Sending.{HasOutputFrame, ForgetsCovered}
 use Rattle.output_releases.specs.Released.{names_of}
-use Rattle.system_parts.proofs.LineLemmas.{line_log, past_in, past_good, holds_log, holds_moves}
-use Rattle.system_parts.proofs.SentLemmas.{entry_frame_stays, output_frame_stays}
-use Rattle.system_parts.proofs.SnapshotLemmas.{marks_stay}
+use Rattle.output_releases.proofs.FromSystemParts.{line_log, past_in, past_good, holds_log, holds_moves}
+use Rattle.output_releases.proofs.FromSystemParts.{entry_frame_stays, output_frame_stays}
+use Rattle.output_releases.proofs.FromSystemParts.{marks_stay}
 use Rattle.output_releases.proofs.OutputLists.{parts_world, names_as, names_more, noted_more, releases_as}
 use Rattle.output_releases.proofs.Answering.{AnswersTo}
 use Rattle.snapshot_store.specs.Stored.{Snapshot, Snapshots}

@@ -21,9 +21,9 @@ use Rattle.recovery_world.specs.World.{Setting, World, inputs_fed}
 use Rattle.recovery_world.specs.Limits.{OnWithin}
 use Rattle.recovery_laws.proofs.KeptWorlds.{within_sound}
 use Rattle.recovery_laws.proofs.AcceptedRuns.{made_length}
-use Rattle.system_parts.specs.Parts.{Parts, AreParts}
-use Rattle.system_parts.specs.SystemStanding.{IsSnapshot, StandsFor}
-use Rattle.system_parts.specs.Performing.{MovesOn, ComesTo}
+use Rattle.output_releases.specs.FromSystemParts.{Parts, AreParts}
+use Rattle.output_releases.specs.FromSystemParts.{IsSnapshot, StandsFor}
+use Rattle.output_releases.specs.FromSystemParts.{MovesOn, ComesTo}
 use Rattle.snapshot_steps.proofs.StoreLemmas.{log_short, total_is}
 
 module _ {P V : Type 0} (m : Meaning V) (s : Setting V) (w : World V) (y : Parts P V) (st : StandsFor m s w y) where

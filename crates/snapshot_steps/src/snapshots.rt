@@ -1,17 +1,16 @@
 ghost use Rattle.std.specs.Prelude.{◌≡◌, ◌<◌, ◌≤◌, ◌^◌, IfOk, length, sum};
 ghost use Rattle.recovery_world.specs.declared.event.Event.TheVariants as event_is;
 ghost use Rattle.sent_frames.specs.Sending.{ForgetsCovered};
-ghost use Rattle.system_parts.specs.SystemStanding.{StandsForSome};
-ghost use Rattle.system_parts.specs.Performing.{Appends, MovesOn, Releasing, ComesTo, Replies};
+ghost use Rattle.output_releases.specs.FromSystemParts.{StandsForSome};
+ghost use Rattle.output_releases.specs.FromSystemParts.{Appends, MovesOn, Releasing, ComesTo, Replies};
 
 use access_log::Outputs;
 use box_program::Program;
 use event_replies::{Reply, only};
-use output_releases::{forget_released, note_released};
+use output_releases::{Core, forget_released, note_released};
 use plain_text::NoMemory;
 use recovery_world::Outcome;
 use sent_frames::SentFrames;
-use system_parts::Core;
 use thread_clock::EntryCounts;
 
 /// How many entries there are, by the number of each thread.

@@ -5,7 +5,7 @@ use Rattle.std.specs.Prelude.{slice_index_or, nat_eq}
 use Rattle.entry_order.proofs.Order.{is_or}
 use Rattle.plain_machine.specs.Program.{Meaning}
 use Rattle.plain_machine.proofs.Histories.{is_eq, not_eq}
-use Rattle.box_program.specs.Hands.{FitsProgram}
+use Rattle.master_core.specs.FromBoxProgram.{FitsProgram}
 use Rattle.master_core.specs.declared.parts.VarPart.{VarPart}
 use Rattle.master_core.specs.Mastered.{Mastered, value_of}
 use Rattle.master_core.specs.Deltas.{changed_part, changed_parts, delta_of, applied_part, applied, Leads}

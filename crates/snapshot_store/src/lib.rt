@@ -4,4 +4,5 @@
 
 mod store;
 
+pub use master_core::{Counts, Master, Program};
 pub use store::{Restored, Store};

@@ -1,14 +1,13 @@
 ghost use Rattle.std.specs.Prelude.{◌≡◌, ◌↔◌, ℕ, ◌≤◌, [], length, IsTrue, IsSome, IfOk, OnOk};
 ghost use Rattle.std.specs.Prelude.{OnErr, None};
 ghost use Rattle.std.specs.Option.{ForSome};
-ghost use Rattle.box_program.specs.Hands.{FitsProgram};
+ghost use Rattle.master_core.specs.FromBoxProgram.{FitsProgram};
 ghost use Rattle.master_core.specs.Mastered.{value_of};
 ghost use Rattle.master_core.specs.MasterStanding.{Stands};
 ghost use Rattle.master_core.specs.Deltas.{delta_of, HasCounts};
 ghost use Rattle.snapshot_store.specs.Stored.{HasTaken};
 
-use box_program::Program;
-use master_core::{Delta, Master};
+use master_core::{Delta, Master, Program};
 use plain_text::NoMemory;
 use std::alloc::Global;
 use std::marker::Model;

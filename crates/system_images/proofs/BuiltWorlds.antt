@@ -34,7 +34,7 @@ use Rattle.recovery_laws.specs.Sound.{Sound}
 use Rattle.recovery_laws.proofs.Finishes.{sent_there}
 use Rattle.recovery_laws.proofs.Settlings.{among_left, among_right, number_high}
 use Rattle.recovery_laws.proofs.Sets.{among_either}
-use Rattle.output_releases.proofs.OutputLists.{sent_names_both}
+use Rattle.snapshot_steps.proofs.FromOutputReleases.{sent_names_both}
 use Rattle.system_parts.proofs.OutputNumbers.{output_from_one}
 use Rattle.handover_world.specs.Faults.{IsOutputIn}
 use Rattle.system_images.specs.Building.{IsBuilt, IsReleased}

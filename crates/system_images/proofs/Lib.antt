@@ -4,3 +4,7 @@ pub mod FarLemmas
 pub mod ReadyLemmas
 pub mod ResumingLemmas
 pub mod RowsLemmas
+pub mod FromMessageArrivals
+pub mod FromOutputReleases
+pub mod FromPacketFeeds
+pub mod FromSystemEnd

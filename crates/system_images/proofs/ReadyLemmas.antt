@@ -4,7 +4,7 @@ use Rattle.std.proofs.Common.{◌∙◌, subst, inl, inr, arith, Option, Some, N
 use Rattle.std.proofs.lemmas.List.{drop_all}
 use Rattle.master_core.specs.declared.parts.Counts.{Counts}
 use Rattle.master_core.specs.declared.parts.ThreadPart.{ThreadPart}
-use Rattle.output_releases.proofs.Answering.{counted}
+use Rattle.snapshot_steps.proofs.FromOutputReleases.{counted}
 use Rattle.std.specs.Prelude.{◌^◌, ◌-◌, HoldsAt, min, is_some, IsSome, cond, drop, nat_eq, nat_lt}
 use Rattle.std.proofs.lemmas.Bool.{cases_lt}
 use Rattle.std.proofs.lemmas.Bool.Decides.{nat_tests}

@@ -5,3 +5,5 @@ pub mod ReadLemmas
 pub mod SentLemmas
 pub mod EventChains
 pub mod OutputsSent
+pub mod FromRecoveryLaws
+pub mod FromReplayGuide

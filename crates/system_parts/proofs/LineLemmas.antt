@@ -5,20 +5,20 @@ use Rattle.entry_order.specs.Log.{Entry, IsLog, IsIn, IsClosed, Keeps}
 use Rattle.entry_order.specs.Closed.{IsFrontier}
 use Rattle.entry_order.specs.Stamps.{IsStamp}
 use Rattle.entry_order.proofs.KeptEntries.{in_left, in_right, in_either}
-use Rattle.line_order.proofs.OneLine.{closed_stamp}
-use Rattle.line_order.proofs.Arrangements.{next_past}
+use Rattle.recovery_world.proofs.FromLineOrder.{closed_stamp}
+use Rattle.recovery_world.proofs.FromLineOrder.{next_past}
 use Rattle.access_log.specs.Held.{Lane, lane, IsKnown as IsKnownLane}
 use Rattle.plain_machine.specs.History.{Step, log_of}
 use Rattle.plain_machine.specs.Agree.{IsEarlier}
 use Rattle.plain_machine.proofs.Histories.{history_log, earlier_log}
-use Rattle.master_core.specs.Holding.{held_entries, HoldsOf}
-use Rattle.master_core.specs.Stepping.{plain_entry}
-use Rattle.master_core.proofs.Frontiers.{frontier_of, frontiers_are_defined, known_is_there, there_is_known}
-use Rattle.master_core.proofs.Moments.{moment_log, moment_closed}
+use Rattle.snapshot_store.specs.FromMasterCore.{held_entries, HoldsOf}
+use Rattle.snapshot_store.specs.FromMasterCore.{plain_entry}
+use Rattle.snapshot_store.proofs.FromMasterCore.{frontier_of, frontiers_are_defined, known_is_there, there_is_known}
+use Rattle.snapshot_store.proofs.FromMasterCore.{moment_log, moment_closed}
 use Rattle.recovery_world.specs.World.{Setting, World, inputs_fed}
 use Rattle.recovery_world.specs.Events.{entries_of_line}
-use Rattle.recovery_laws.specs.Sound.{Firm}
-use Rattle.recovery_laws.proofs.KeptWorlds.{line_entries, entries_line}
+use Rattle.replay_guide.specs.FromRecoveryLaws.{Firm}
+use Rattle.replay_guide.proofs.FromRecoveryLaws.{line_entries, entries_line}
 
 -- a held set of the entries of the one list is one of those of the other, where both have the same ones
 pub stamp_moves : (a b : List Entry) (e : Entry) (s : ℕ → ℕ) → ((f : Entry) → IsIn f a → IsIn f b)

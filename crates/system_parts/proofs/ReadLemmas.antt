@@ -3,12 +3,12 @@ use Rattle.std.proofs.Common.{◌≡◌, ℕ, suc, ◌<◌, List, [], ◌∷◌,
 use Rattle.std.proofs.Common.{None, true}
 use Rattle.std.specs.Prelude.{HoldsAt}
 use Rattle.entry_order.specs.Log.{entries}
-use Rattle.input_logger.specs.Inputs.{Fed}
+use Rattle.recovery_world.specs.FromInputLogger.{Fed}
 use Rattle.plain_machine.specs.Program.{Meaning}
 use Rattle.plain_machine.specs.History.{log_of, sent_of, outputs, thread_after, value_after}
-use Rattle.master_core.specs.declared.parts.Counts.{Counts}
-use Rattle.master_core.specs.declared.parts.ThreadPart.{ThreadPart}
-use Rattle.master_core.specs.declared.parts.VarPart.{VarPart}
+use Rattle.snapshot_store.specs.FromMasterCore.{Counts}
+use Rattle.snapshot_store.specs.FromMasterCore.{ThreadPart}
+use Rattle.snapshot_store.specs.FromMasterCore.{VarPart}
 use Rattle.recovery_world.specs.declared.event.Event.TheVariants as event
 use Rattle.recovery_world.specs.declared.event.Outcome.TheVariants as outcome
 use Rattle.recovery_world.specs.World.{Setting, Sent, World}

@@ -13,8 +13,8 @@ use Rattle.entry_order.proofs.Parts.{stamp_stays}
 use Rattle.access_log.specs.declared.entry.StampedEntry.{StampedEntry}
 use Rattle.access_log.specs.declared.entry.Output.{Output}
 use Rattle.access_log.specs.Held.{Lane, lane, IsKnown}
-use Rattle.link_store.specs.declared.address.Address.{Address}
-use Rattle.link_store.specs.Links.{frame_at, Sends}
+use Rattle.sent_frames.specs.FromLinkStore.{Address}
+use Rattle.sent_frames.specs.FromLinkStore.{frame_at, Sends}
 use Rattle.wire_frames.specs.declared.frame.Frame.TheVariants as frame_of
 use Rattle.wire_frames.specs.Layout.{IsFrame}
 use Rattle.wire_frames.specs.Writing.{CanPutEntry, CanPutOutput}
@@ -25,13 +25,13 @@ use Rattle.plain_machine.specs.Machine.{Thread}
 use Rattle.plain_machine.specs.History.{Act, Took, Did, Emitted, Ended, Step, log_of, sent_of, outputs, IsHistory}
 use Rattle.plain_machine.specs.Agree.{SendsAfter}
 use Rattle.plain_machine.proofs.Histories.{is_eq, not_eq}
-use Rattle.master_core.specs.Mastered.{Mastered}
-use Rattle.master_core.specs.Stepping.{plain_entry, emission_of_output}
-use Rattle.master_core.proofs.StampedLemmas.{other_output}
+use Rattle.snapshot_store.specs.FromMasterCore.{Mastered}
+use Rattle.snapshot_store.specs.FromMasterCore.{plain_entry, emission_of_output}
+use Rattle.snapshot_store.proofs.FromMasterCore.{other_output}
 use Rattle.recovery_world.specs.World.{Sent, World}
 use Rattle.recovery_world.specs.Events.{bytes_sent}
-use Rattle.recovery_laws.proofs.SoundParts.{sent_after}
-use Rattle.recovery_laws.proofs.Settlings.{number_high}
+use Rattle.replay_guide.proofs.FromRecoveryLaws.{sent_after}
+use Rattle.replay_guide.proofs.FromRecoveryLaws.{number_high}
 use Rattle.sent_frames.specs.Sending.{Sending, lengths_of, length_at, one_longer, entry_size, output_size}
 use Rattle.sent_frames.specs.Sending.{entry_address, output_address, HasEntryFrame, HasOutputFrame, SendsEntry}
 use Rattle.sent_frames.specs.Sending.{SendsOutput}

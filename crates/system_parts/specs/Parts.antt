@@ -6,13 +6,13 @@ use Rattle.plain_text.specs.Packets.{IsShort}
 use Rattle.plain_text.specs.declared.limit.TheConstants.{MOST_MOVES, MOST_OUTPUT_BYTES}
 use Rattle.plain_text.specs.declared.packet.Packet.{Packet}
 use Rattle.plain_text.specs.declared.packet.Unit.{Unit as FractionUnit}
-use Rattle.input_logger.specs.Inputs.{Fed}
+use Rattle.recovery_world.specs.FromInputLogger.{Fed}
 use Rattle.plain_machine.specs.declared.plain_move.PlainMove.{PlainMove}
 use Rattle.plain_machine.specs.Program.{Meaning}
-use Rattle.box_program.specs.Hands.{FitsProgram}
+use Rattle.snapshot_store.specs.FromBoxProgram.{FitsProgram}
 use Rattle.access_log.specs.Held.{Lane}
-use Rattle.master_core.specs.declared.parts.Counts.{Counts}
-use Rattle.master_core.specs.Mastered.{Mastered, value_of}
+use Rattle.snapshot_store.specs.FromMasterCore.{Counts}
+use Rattle.snapshot_store.specs.FromMasterCore.{Mastered, value_of}
 use Rattle.output_logger.specs.Logger.{Logger}
 use Rattle.snapshot_store.specs.Stored.{Snapshots}
 use Rattle.sent_frames.specs.Sending.{Sending}

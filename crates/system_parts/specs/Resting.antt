@@ -4,7 +4,7 @@ use Rattle.plain_machine.specs.Program.{Meaning}
 use Rattle.recovery_world.specs.World.{Setting, World}
 use Rattle.recovery_world.specs.Limits.{IsWithin}
 use Rattle.recovery_world.specs.Files.{moves_made}
-use Rattle.recovery_laws.specs.Sound.{Sound}
+use Rattle.replay_guide.specs.FromRecoveryLaws.{Sound}
 use Rattle.system_parts.specs.Parts.{Parts}
 use Rattle.system_parts.specs.SystemStanding.{HasInputs, HasSnapshots, HasEnded, HasGuide, HasSent, HasLogger}
 use Rattle.system_parts.specs.SystemStanding.{NotesNames}

@@ -8,23 +8,23 @@ use Rattle.access_log.specs.declared.entry.StampedEntry.{StampedEntry}
 use Rattle.access_log.specs.declared.entry.Output.{Output}
 use Rattle.access_log.specs.Held.{Lane, lane, IsKnown}
 use Rattle.dup_filter.specs.Numbers.{Numbers, WasMarked}
-use Rattle.link_store.specs.declared.address.Address.{Address}
-use Rattle.link_store.specs.Links.{frame_at}
+use Rattle.sent_frames.specs.FromLinkStore.{Address}
+use Rattle.sent_frames.specs.FromLinkStore.{frame_at}
 use Rattle.plain_machine.specs.Program.{Meaning}
 use Rattle.plain_machine.specs.History.{Step, log_of, sent_of, outputs}
 use Rattle.plain_machine.specs.Agree.{SendsAfter}
-use Rattle.master_core.specs.declared.parts.Counts.{Counts}
-use Rattle.master_core.specs.MasterStanding.{Stands}
+use Rattle.snapshot_store.specs.FromMasterCore.{Counts}
+use Rattle.snapshot_store.specs.FromMasterCore.{Stands}
 use Rattle.snapshot_store.specs.Stored.{Snapshot, Snapshots}
-use Rattle.master_core.specs.Stepping.{plain_entry, emission_of_output}
-use Rattle.master_core.specs.Holding.{held_entries, HoldsOf}
+use Rattle.snapshot_store.specs.FromMasterCore.{plain_entry, emission_of_output}
+use Rattle.snapshot_store.specs.FromMasterCore.{held_entries, HoldsOf}
 use Rattle.output_logger.specs.Logger.{Logger}
 use Rattle.replay_guide.specs.Worlds.{Guides}
 use Rattle.recovery_world.specs.World.{Setting, Sent, Ended as EndedEpoch, World}
 use Rattle.recovery_world.specs.Events.{HasNumber, IsAmong, entries_of_line}
 use Rattle.recovery_world.specs.Limits.{IsWithin}
 use Rattle.recovery_world.specs.Files.{moves_made, sent_names}
-use Rattle.recovery_laws.specs.Sound.{Sound}
+use Rattle.replay_guide.specs.FromRecoveryLaws.{Sound}
 use Rattle.sent_frames.specs.Sending.{Sending, lengths_of, length_at, entry_size, output_size, entry_address}
 use Rattle.sent_frames.specs.Sending.{output_address, HasEntryFrame, HasOutputFrame}
 use Rattle.system_parts.specs.Parts.{Parts}

@@ -1,14 +1,12 @@
-use box_program::Program;
 use drawn_words::DrawnWords;
 use event_replies::Releases;
-use input_logger::InputLog;
-use master_core::{Counts, Master};
 use output_logger::OutputLogger;
 use plain_machine::Schedule;
 use plain_text::{Packet, Sequence, Unit};
+use recovery_world::InputLog;
 use replay_guide::Guide;
 use sent_frames::SentFrames;
-use snapshot_store::Store;
+use snapshot_store::{Counts, Master, Program, Store};
 use std::alloc::Global;
 use std::collections::VecDeque;
 use std::marker::Model;

@@ -4,3 +4,5 @@
 mod assembly;
 
 pub use assembly::Core;
+pub use event_replies::{Releases, Reply, only};
+pub use replay_guide::Guide;

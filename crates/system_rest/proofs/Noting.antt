@@ -12,7 +12,7 @@ use Rattle.recovery_world.specs.World.{Setting, World}
 use Rattle.recovery_world.specs.Events.{entry_outcome}
 use Rattle.event_replies.specs.declared.reply.Stop.TheVariants as stop
 use Rattle.sent_frames.specs.Sending.{Sending}
-use Rattle.system_parts.specs.Parts.{Parts}
+use Rattle.thread_steps.specs.FromSystemParts.{Parts}
 use Rattle.thread_steps.specs.Stepping.{AddsEntry, AddsOutput, NotesAs, Notes, NotesFor, PassesFor}
 use Rattle.thread_steps.proofs.NotedMoves.{Answer, notes_for, passes_for}
 

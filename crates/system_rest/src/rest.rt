@@ -5,9 +5,9 @@ ghost use Rattle.plain_machine.specs.History.{Step};
 ghost use Rattle.master_core.specs.Mastered.{value_of};
 ghost use Rattle.master_core.specs.MasterStanding.{Stands};
 ghost use Rattle.recovery_world.specs.World.{Setting, World};
-ghost use Rattle.system_parts.specs.Parts.{AreParts};
-ghost use Rattle.system_parts.specs.SystemStanding.{StandsFor};
-ghost use Rattle.system_parts.specs.Resting.{RestsFor};
+ghost use Rattle.thread_steps.specs.FromSystemParts.{AreParts};
+ghost use Rattle.thread_steps.specs.FromSystemParts.{StandsFor};
+ghost use Rattle.thread_steps.specs.FromSystemParts.{RestsFor};
 ghost use Rattle.thread_steps.specs.Stepping.{CanNote, NotesFor, PassesFor};
 
 use box_program::Program;
@@ -17,11 +17,9 @@ use kept_moves::KeptMove;
 use master_core::Master;
 use plain_text::NoMemory;
 use recovery_world::Outcome;
-use replay_guide::Guide;
 use std::marker::Model;
 use std::mem;
-use system_parts::Core;
-use thread_steps::note_kept;
+use thread_steps::{Core, Guide, note_kept};
 
 /// The parts of a system whose master was taken out: a fresh one stands in its place.
 #[derive(Drop)]
@@ -30,7 +28,7 @@ pub struct Rest<P: Program> {
 }
 
 impl<P: Program> Model for Rest<P> {
-    ghost use Rattle.system_parts.specs.Parts.{Parts};
+    ghost use Rattle.thread_steps.specs.FromSystemParts.{Parts};
 
     ghost Value = { Parts P P.Value };
 

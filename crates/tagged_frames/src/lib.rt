@@ -7,6 +7,8 @@ ghost use Rattle.std.specs.Prelude.{◌≡◌, ◌≤◌, length};
 ghost use Rattle.tagged_frames.specs.Tags.{is_tagged, tag_length};
 
 use packet_headers::{IP_HEADER, word_at};
+pub use packet_headers::{steering_sum, view};
+pub use plain_text::{NoMemory, Packet, Packets, Sequence};
 
 /// Where a frame has its Ethernet type, or the type of its tag (IEEE 802.1Q, 9.3).
 const ETHER_TYPE: usize = 12;

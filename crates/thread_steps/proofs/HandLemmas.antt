@@ -15,10 +15,10 @@ use Rattle.recovery_world.specs.Turns.{TellsClock, TellsDraw}
 use Rattle.recovery_world.specs.Events.{Tells, TellsHand}
 use Rattle.recovery_laws.specs.Sound.{Sound}
 use Rattle.access_log.specs.Held.{Lane, lane, entry_at}
-use Rattle.replay_guide.specs.Following.{recorded}
-use Rattle.replay_guide.specs.Worlds.{Guides}
-use Rattle.replay_guide.proofs.WorldAnswers.{tells_clock as recorded_clock, tells_draw as recorded_draw}
-use Rattle.replay_guide.proofs.WorldAnswers.{tells_free_clock as free_clock, tells_free_draw as free_draw}
+use Rattle.system_parts.specs.FromReplayGuide.{recorded}
+use Rattle.system_parts.specs.FromReplayGuide.{Guides}
+use Rattle.system_parts.proofs.FromReplayGuide.{tells_clock as recorded_clock, tells_draw as recorded_draw}
+use Rattle.system_parts.proofs.FromReplayGuide.{tells_free_clock as free_clock, tells_free_draw as free_draw}
 use Rattle.thread_steps.specs.Following.{or_given}
 
 -- What a thread asks for, from what a master wants.

@@ -4,3 +4,4 @@ pub mod NoteLemmas
 pub mod MoveLemmas
 pub mod NotedMoves
 pub mod StepLemmas
+pub mod FromRunEnd

@@ -19,10 +19,10 @@ use Rattle.recovery_world.specs.declared.event.Outcome.TheVariants as outcome
 use Rattle.recovery_world.specs.World.{Setting, World}
 use Rattle.recovery_world.specs.Turns.{Awaits, HasTurn, HandHasTurn}
 use Rattle.recovery_laws.specs.Sound.{Sound}
-use Rattle.replay_guide.specs.Worlds.{Guides}
-use Rattle.replay_guide.specs.Turns.{WaitsFor as GuideWaits}
-use Rattle.replay_guide.proofs.WorldTurns.{waits_are_awaited, awaited_waits, line_log, line_good, past_good, past_kept}
-use Rattle.replay_guide.proofs.WorldTurns.{followed_kept}
+use Rattle.system_parts.specs.FromReplayGuide.{Guides}
+use Rattle.system_parts.specs.FromReplayGuide.{WaitsFor as GuideWaits}
+use Rattle.system_parts.proofs.FromReplayGuide.{waits_are_awaited, awaited_waits, line_log, line_good, past_good, past_kept}
+use Rattle.system_parts.proofs.FromReplayGuide.{followed_kept}
 use Rattle.thread_steps.specs.Following.{HasTurnBy}
 use Rattle.system_parts.specs.Parts.{Parts}
 use Rattle.system_parts.specs.SystemStanding.{StandsFor}

@@ -1,2 +1,4 @@
 pub mod Following
 pub mod Stepping
+pub mod FromRunEnd
+pub mod FromSystemParts

@@ -14,7 +14,7 @@ ghost use Rattle.recovery_world.specs.Limits.{limit_passed as passed};
 ghost use Rattle.recovery_laws.specs.Sound.{Sound};
 ghost use Rattle.system_parts.specs.SystemStanding.{HasGuide, StandsFor, StandsForSome};
 ghost use Rattle.thread_steps.specs.Following.{HasTurnBy, or_given};
-ghost use Rattle.replay_guide.specs.Following.{recorded};
+ghost use Rattle.system_parts.specs.FromReplayGuide.{recorded};
 ghost use Rattle.access_log.specs.Held.{lane, entry_at};
 ghost use Rattle.system_parts.specs.Performing.{MovesOn, StopsAt, ComesTo, WouldPass};
 ghost use Rattle.kept_moves.specs.Keeping.{IsFor, shown};
@@ -29,10 +29,9 @@ use master_core::{Stepped, Wants};
 use plain_machine::PlainMove;
 use plain_text::{Limit, MOST_MOVES, MOST_OUTPUT_BYTES};
 use recovery_world::Outcome;
-use replay_guide::Guide;
 use run_end::input_of;
 use std::boxed::Box;
-use system_parts::Core;
+use system_parts::{Core, Guide};
 
 /// The outcome of a logged move.
 pub fn entry_outcome(number: u64, what: What) -> Outcome

@@ -7,8 +7,8 @@ use Rattle.std.proofs.Math.Nat.{pow-suc, one-le-pow}
 use Rattle.byteorder.specs.Endian.{big_bytes}
 use Rattle.byteorder.specs.Numbers.{length-bytes_high_first}
 use Rattle.plain_text.specs.declared.packet.Packet.{Packet}
-use Rattle.entry_order.specs.declared.what.What.{What}
-use Rattle.entry_order.specs.declared.what.What.TheVariants.{Access, Read, Clock, Draw}
+use Rattle.access_log.specs.FromEntryOrder.{What}
+use Rattle.access_log.specs.FromEntryOrder.{Access, Read, Clock, Draw}
 use Rattle.access_log.specs.declared.entry.StampedEntry.{StampedEntry}
 use Rattle.access_log.specs.declared.entry.Output.{Output}
 use Rattle.plain_text.specs.declared.kind.Kind.{Kind}

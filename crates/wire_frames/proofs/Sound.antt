@@ -6,7 +6,7 @@ use Rattle.std.proofs.lemmas.List.{length-drop, length-take, take-append-drop}
 use Rattle.byteorder.specs.Numbers.{big_from-lt}
 use Rattle.plain_text.specs.Octets.{AreBytes}
 use Rattle.plain_text.proofs.Octets.{AreBytes-drop}
-use Rattle.entry_order.specs.declared.what.What.{What}
+use Rattle.access_log.specs.FromEntryOrder.{What}
 use Rattle.access_log.specs.declared.entry.StampedEntry.{StampedEntry}
 use Rattle.access_log.specs.declared.entry.Output.{Output}
 use Rattle.plain_text.specs.declared.kind.Kind.{Kind}

@@ -2,8 +2,8 @@
 use Rattle.std.proofs.Common.{◌≡◌, ℕ, ◌^◌, ◌<◌, ◌==◌, ◌&&◌, Bool, true, false, nat_lt, if◌then◌else◌, Some, None, refl}
 use Rattle.std.proofs.Common.{sym, subst, arith}
 use Rattle.std.proofs.lemmas.Bool.{ltb-true, eqb-true, lt-ltb, and_parts}
-use Rattle.entry_order.specs.declared.what.What.{What}
-use Rattle.entry_order.specs.declared.what.What.TheVariants.{Access, Read, Clock, Draw}
+use Rattle.access_log.specs.FromEntryOrder.{What}
+use Rattle.access_log.specs.FromEntryOrder.{Access, Read, Clock, Draw}
 use Rattle.wire_frames.specs.declared.version.Version.{Version}
 use Rattle.wire_frames.specs.declared.version.Version.TheVariants.{One, Two}
 use Rattle.wire_frames.specs.Layout.{code_of, subject_of, place_field, IsDone}

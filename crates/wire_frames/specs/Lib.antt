@@ -3,3 +3,4 @@ pub mod Places
 pub mod Faults
 pub mod Parts
 pub mod Writing
+pub mod FromAccessLog

@@ -1,7 +1,7 @@
 -- The parts of a frame, as its reader finds them and its writer puts them.
 use Rattle.std.specs.Prelude.{◌≡◌, ℕ, ◌^◌, ◌<◌, ◌≤◌, List, [], ◌∷◌, ◌++◌, All, Some, None, option_map}
-use Rattle.entry_order.specs.declared.what.What.{What}
-use Rattle.entry_order.specs.declared.what.What.TheVariants.{Access, Read, Clock, Draw}
+use Rattle.access_log.specs.FromEntryOrder.{What}
+use Rattle.access_log.specs.FromEntryOrder.{Access, Read, Clock, Draw}
 use Rattle.access_log.specs.declared.entry.StampedEntry.{StampedEntry}
 use Rattle.access_log.specs.declared.entry.Output.{Output}
 use Rattle.plain_text.specs.declared.kind.Kind.{Kind}

@@ -3,8 +3,8 @@ use Rattle.std.specs.Prelude.{ℕ, zero, suc, ◌+◌, ◌-◌, ◌*◌, ◌/◌
 use Rattle.std.specs.Prelude.{[], ◌∷◌, take, drop, Option, Some, None}
 use Rattle.byteorder.specs.Endian.{big_number}
 use Rattle.plain_text.specs.declared.packet.Packet.{Packet}
-use Rattle.entry_order.specs.declared.what.What.{What}
-use Rattle.entry_order.specs.declared.what.What.TheVariants.{Access, Read, Clock, Draw}
+use Rattle.access_log.specs.FromEntryOrder.{What}
+use Rattle.access_log.specs.FromEntryOrder.{Access, Read, Clock, Draw}
 use Rattle.plain_text.specs.declared.kind.Kind.{Kind}
 use Rattle.plain_text.specs.declared.kind.Kind.TheVariants.{Log, Out}
 use Rattle.wire_frames.specs.declared.version.Version.{Version}

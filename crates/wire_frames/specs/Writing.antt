@@ -1,8 +1,8 @@
 -- What may be written: an entry, or an output, that has a frame.
 use Rattle.std.specs.Prelude.{◌≡◌, ℕ, ◌<◌, ◌≤◌, List, length, slice_index}
 use Rattle.plain_text.specs.declared.limit.TheConstants.{MOST_CAPTURED}
-use Rattle.entry_order.specs.declared.what.What.{What}
-use Rattle.entry_order.specs.declared.what.What.TheVariants.{Access, Read, Clock, Draw}
+use Rattle.access_log.specs.FromEntryOrder.{What}
+use Rattle.access_log.specs.FromEntryOrder.{Access, Read, Clock, Draw}
 use Rattle.access_log.specs.declared.entry.StampedEntry.{StampedEntry}
 use Rattle.access_log.specs.declared.entry.Output.{Output}
 

@@ -1,7 +1,6 @@
 ghost use Rattle.std.specs.Prelude.{◌≡◌, ℕ, ◌^◌, ◌≤◌, IfSome, IfNone, slice_index};
 
-use access_log::{Output, StampedEntry};
-use entry_order::What;
+use access_log::{Output, StampedEntry, What};
 use plain_text::{NoMemory, Packet};
 use std::marker::Model;
 use thiserror::Error;

@@ -15,6 +15,7 @@ mod values;
 mod version;
 mod writing;
 
+pub use access_log::{Output, StampedEntry, What, copy_output};
 pub use frame::{Frame, FrameEntry, FrameError, FrameFault, FrameOutput};
 pub use laws::{
     no_frame_begins_another, one_frame, the_mask_names_what_is_not_0,

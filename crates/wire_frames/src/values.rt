@@ -15,7 +15,7 @@ use crate::layout::{Layout, PACKET_HEADER, place_of_components};
 use crate::stamp::read_stamp;
 use crate::version::Version;
 use crate::{Frame, FrameEntry, FrameError, FrameFault, FrameOutput};
-use entry_order::What;
+use access_log::What;
 use plain_text::{Bytes, Kind, NoMemory, Packet};
 use std::alloc::Global;
 use thread_clock::EntryCounts;

@@ -11,8 +11,7 @@ ghost use Rattle.wire_frames.specs.Parts.{entry_front, output_front, FitsWord};
 ghost use Rattle.wire_frames.specs.Writing.{CanPutEntry, CanPutOutput};
 
 use crate::stamp::{count_nonzero, mask_of};
-use access_log::{Output, StampedEntry};
-use entry_order::What;
+use access_log::{Output, StampedEntry, What};
 use plain_text::{Bytes, HEADER_ROOM, Kind, NoMemory, Packet};
 use std::alloc::Global;
 use thread_clock::Stamp;

@@ -1,5 +1,5 @@
 use Rattle.std.proofs.Common.{sym, ap, subst, ◌∙◌, take}
-use Rattle.replay_guide.specs.Following.{CanBeFollowed}
+use Rattle.system_parts.specs.FromReplayGuide.{CanBeFollowed}
 use Rattle.crash_recovery.proofs.RecoveryWorlds.{start_moves_as, starts_then, sends_then, follows_then}
 use Rattle.crash_recovery.proofs.crashing.start_over.Goals as goal
 

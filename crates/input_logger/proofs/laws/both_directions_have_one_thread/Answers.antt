@@ -1,7 +1,7 @@
 use Rattle.std.proofs.Common.{◌≡◌, ◌+◌, ℕ, ◌%◌, ap, sym, ◌∙◌, arith, Ok}
-use Rattle.plain_text.specs.declared.packet.Packet.{Packet}
-use Rattle.packet_headers.specs.declared.flow.Flow.{Flow}
-use Rattle.packet_headers.specs.Steering.{AreBothDirections, steering_sum}
+use Rattle.tagged_frames.specs.FromPlainText.{Packet}
+use Rattle.tagged_frames.specs.FromPacketHeaders.{Flow}
+use Rattle.tagged_frames.specs.FromPacketHeaders.{AreBothDirections, steering_sum}
 use Rattle.input_logger.specs.Inputs.{thread_of, thread_of_view}
 use Rattle.input_logger.proofs.laws.both_directions_have_one_thread.Goals as goal
 

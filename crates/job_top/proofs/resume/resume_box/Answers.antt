@@ -1,6 +1,6 @@
 use Rattle.std.proofs.Common.{◌∷◌, [], ap, refl, sym}
 use Rattle.input_files.proofs.OnlyReading.{OpensFirst-none}
-use Rattle.run_command.proofs.Going.{at_same, somewhere_same}
+use Rattle.hand_command.proofs.FromRunCommand.{at_same, somewhere_same}
 use Rattle.hand_command.specs.Hand.{IsHandedOver}
 use Rattle.hand_command.proofs.Resuming.{resumed_at}
 use Rattle.job_commands.specs.HandWords.{resume_names_of}

@@ -1,7 +1,7 @@
 use Rattle.std.proofs.Common.{subst, sym, ◌∙◌}
 use Rattle.input_files.proofs.OnlyReading.{OpensFirst-all}
 use Rattle.run_writes.specs.Replies.{at_world}
-use Rattle.run_command.proofs.Going.{runs_same}
+use Rattle.hand_command.proofs.FromRunCommand.{runs_same}
 use Rattle.job_commands.specs.declared.status.Status.{Status}
 use Rattle.job_commands.specs.HandWords.{resume_names_of}
 use Rattle.job_commands.specs.Status.{IsRefusal}

@@ -3,9 +3,9 @@ use Rattle.frame_intake.specs.Orders.{orders_of}
 use Rattle.plain_machine.specs.Program.{Meaning}
 use Rattle.run_command.proofs.Going.{somewhere_same}
 use Rattle.run_command.specs.Running.{IsSystemAt}
-use Rattle.round_join.specs.Racing.{events_noted}
+use Rattle.live_workers.specs.FromRoundJoin.{events_noted}
 use Rattle.live_writes.specs.Told.{HasBegunLive}
-use Rattle.round_join.specs.declared.noting.Noted.{Noted}
+use Rattle.live_workers.specs.FromRoundJoin.{Noted}
 use Rattle.live_workers.specs.Rounds.{StopsRound}
 use Rattle.live_workers.specs.declared.rounds.RoundStop.{RoundStop}
 use Rattle.live_command.specs.Going.{GoesRace, StopsAtStep, standing_in}

@@ -1,5 +1,5 @@
 use Rattle.std.proofs.Common.{◌≡◌, ◌++◌, Err, rules}
-use Rattle.round_join.specs.Racing.{events_noted}
+use Rattle.live_workers.specs.FromRoundJoin.{events_noted}
 use Rattle.live_command.proofs.RoundsTold.{race_arrived, race_failed}
 use Rattle.live_command.proofs.TellingSteps.{open_still}
 use Rattle.live_command.proofs.racing.tell_race.Goals as goal

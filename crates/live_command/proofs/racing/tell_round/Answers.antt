@@ -1,7 +1,7 @@
 use Rattle.std.proofs.Common.{Err, List, Ok, subst, sym}
 use Rattle.std.specs.Prelude.{⊤}
-use Rattle.round_join.specs.Racing.{PerformsNoted}
-use Rattle.round_join.specs.declared.noting.Noted.{Noted}
+use Rattle.live_workers.specs.FromRoundJoin.{PerformsNoted}
+use Rattle.live_workers.specs.FromRoundJoin.{Noted}
 use Rattle.live_command.proofs.RoundsTold.{race_same}
 use Rattle.live_command.proofs.racing.tell_round.Goals as goal
 

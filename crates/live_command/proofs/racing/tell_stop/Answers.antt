@@ -1,7 +1,7 @@
 use Rattle.std.proofs.Common.{◌≡◌, ◌∷◌, ◌++◌, [], Err, ap, rules, subst}
 use Rattle.recovery_world.specs.declared.event.Event.{Event}
 use Rattle.recovery_world.specs.declared.event.Event.TheVariants as event
-use Rattle.round_join.specs.Racing.{events_noted}
+use Rattle.live_workers.specs.FromRoundJoin.{events_noted}
 use Rattle.live_writes.specs.Told.{FailsLive, HasTold}
 use Rattle.live_command.proofs.RoundsTold.{flushed, last_failed, steps_failed}
 use Rattle.live_command.proofs.racing.tell_stop.Goals as goal

@@ -2,7 +2,7 @@ use Rattle.std.proofs.Common.{◌≡◌, ◌∷◌, ◌++◌, ◌∙◌, [], Err
 use Rattle.recovery_world.specs.declared.event.Event.{Event}
 use Rattle.recovery_world.specs.declared.event.Event.TheVariants as event
 use Rattle.recovery_world.specs.Files.{reply_line}
-use Rattle.round_join.specs.Racing.{event_noted}
+use Rattle.live_workers.specs.FromRoundJoin.{event_noted}
 use Rattle.run_writes.specs.declared.error.RunError.TheVariants as run
 use Rattle.live_writes.specs.Told.{FailsLive, HasTold}
 use Rattle.live_command.proofs.WritingSteps.{still_begun}

@@ -2,7 +2,7 @@ use Rattle.std.proofs.Common.{◌≡◌, ◌<◌, ◌++◌, Err, List, add-one, 
 use Rattle.std.proofs.Common.{rules, subst, sym, take}
 use Rattle.recovery_world.specs.declared.event.Event.{Event}
 use Rattle.output_files.proofs.OnlyWriting.{OnlyWrites-same, OnlyWrites-trans}
-use Rattle.round_join.specs.Racing.{events_noted}
+use Rattle.live_workers.specs.FromRoundJoin.{events_noted}
 use Rattle.live_writes.specs.Told.{FailsLive, HasTold}
 use Rattle.live_command.proofs.StepsTold.{all_told, first_noted, from_first, note_failed, noted_take}
 use Rattle.live_command.proofs.StepsTold.{step_on}

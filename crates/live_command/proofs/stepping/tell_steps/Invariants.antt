@@ -5,7 +5,7 @@ use Rattle.recovery_world.specs.declared.event.Event.{Event}
 use Rattle.recovery_world.specs.World.{Setting, World as SystemWorld}
 use Rattle.output_files.specs.Writes.{IsOutput, KeepsOutputs}
 use Rattle.output_files.specs.Written.{OnlyWrites}
-use Rattle.round_join.specs.Racing.{PerformsNoted, events_noted}
+use Rattle.live_workers.specs.FromRoundJoin.{PerformsNoted, events_noted}
 use Rattle.live_writes.specs.Outputs.{AreApart, LiveOutputs}
 use Rattle.live_writes.specs.Told.{HasTold}
 use Rattle.live_command.proofs.StepsTold.{PerformsFrom}

@@ -2,7 +2,7 @@ use Rattle.std.proofs.Common.{◌≤◌, refl, sym, subst, arith}
 use Rattle.std.specs.Prelude.{IfOk}
 use Rattle.recovery_world.specs.declared.event.Outcome.TheVariants as outcome
 use Rattle.message_arrivals.specs.Arriving.{arrival_of}
-use Rattle.system_parts.specs.Performing.{MovesOn, Releasing, Replies}
+use Rattle.output_releases.specs.FromSystemParts.{MovesOn, Releasing, Replies}
 use Rattle.output_releases.proofs.Answering.{came, stays}
 use Rattle.message_arrivals.proofs.Arrivals.{arrives_nowhere}
 use Rattle.message_arrivals.proofs.Forgetting.{forgets_none}

@@ -2,7 +2,7 @@ use Rattle.std.proofs.Common.{◌≡◌, ◌<◌, ◌⊎◌, List, sym, subst, i
 use Rattle.access_log.specs.Held.{Lane, IsFirstMissing, IsWithin}
 use Rattle.dup_filter.specs.Numbers.{Numbers, WasMarked}
 use Rattle.plain_machine.specs.History.{sent_of, outputs}
-use Rattle.output_releases.proofs.Answering.{counted}
+use Rattle.system_images.proofs.FromOutputReleases.{counted}
 use Rattle.recovery_core.proofs.LackingLemmas.{seen_as, not_numbered, frame_lost, lacks_entry, lacks_arrival}
 use Rattle.recovery_core.proofs.lacking.lacking.Goals as goal
 use Rattle.recovery_core.proofs.lacking.lacking.Goals.{then-number-eq0-via-then-number-eq0}

@@ -1,5 +1,5 @@
 use Rattle.std.proofs.lemmas.Result.{IfOk-weaker}
-use Rattle.crash_recovery.specs.Recovering.{WakesUp}
+use Rattle.system_images.specs.FromCrashRecovery.{WakesUp}
 use Rattle.recovery_core.proofs.FinishLemmas.{ends_then}
 use Rattle.recovery_core.proofs.RepliesLemmas.{moves_some}
 use Rattle.recovery_core.proofs.system.end.Goals as goal

@@ -3,7 +3,7 @@ use Rattle.std.proofs.lemmas.Result.{err_from_is_err_and}
 use Rattle.event_replies.specs.declared.reply.Stop.TheVariants as stop
 use Rattle.system_parts.specs.Performing.{Releasing}
 use Rattle.system_parts.proofs.EventChains.{stands_then, threads_stay, exits_as}
-use Rattle.output_releases.proofs.ReleasedLists.{appends_none, appends_then}
+use Rattle.held_steps.proofs.FromOutputReleases.{appends_none, appends_then}
 use Rattle.several_events.specs.Progressing.{IsNext, IsOver, after_of}
 use Rattle.several_events.specs.Ahead.{GoesAhead, Performs}
 use Rattle.several_events.proofs.IdleTurns.{ahead_passes}

@@ -1,6 +1,6 @@
 use Rattle.std.proofs.Common.{◌<◌, sym, subst}
 use Rattle.system_parts.specs.SystemStanding.{StandsFor}
-use Rattle.thread_steps.proofs.StepLemmas.{room_now}
+use Rattle.held_steps.proofs.FromThreadSteps.{room_now}
 use Rattle.several_events.proofs.IdleTurns.{idle_now}
 use Rattle.several_events.proofs.turns.is_idle.Goals as goal
 

@@ -1,4 +1,4 @@
-use Rattle.system_parts.proofs.SnapshotLemmas.{covers_none, covers_more}
+use Rattle.output_releases.proofs.FromSystemParts.{covers_none, covers_more}
 use Rattle.snapshot_steps.proofs.snapshots.forget_stored.Goals as goal
 
 pub loop-thread-init : goal.loop-thread-init

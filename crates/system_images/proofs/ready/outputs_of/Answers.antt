@@ -1,5 +1,5 @@
 use Rattle.std.proofs.Common.{◌≡◌, ◌≤◌, sym, ap, ◌∙◌, arith}
-use Rattle.output_releases.proofs.Answering.{counted}
+use Rattle.snapshot_steps.proofs.FromOutputReleases.{counted}
 use Rattle.system_images.proofs.ReadyLemmas.{none_sent_there, seen_as}
 use Rattle.system_images.proofs.ready.outputs_of.Goals as goal
 

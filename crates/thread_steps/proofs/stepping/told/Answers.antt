@@ -5,7 +5,7 @@ use Rattle.plain_machine.specs.History.{log_of}
 use Rattle.access_log.specs.Held.{lane, entry_at}
 use Rattle.master_core.specs.Stepping.{wanted}
 use Rattle.master_core.specs.MasterStanding.{Stands}
-use Rattle.replay_guide.specs.Following.{recorded}
+use Rattle.system_parts.specs.FromReplayGuide.{recorded}
 use Rattle.thread_steps.specs.Following.{or_given}
 use Rattle.thread_steps.proofs.HandLemmas.{asks_clock, asks_draw, asked_clock, asked_draw, clock_number, draw_number}
 use Rattle.thread_steps.proofs.HandLemmas.{tells_clock, tells_draw, tells_none}

@@ -1,5 +1,5 @@
 use Rattle.std.proofs.Common.{◌∙◌, ap, slice_get, List}
-use Rattle.plain_text.specs.declared.packet.Packet.{Packet}
+use Rattle.tagged_frames.specs.FromPlainText.{Packet}
 use Rattle.input_logger.specs.Inputs.{Fed}
 use Rattle.input_logger.proofs.PlaceLists.{finds_no_thread, finds_no_place, finds_input}
 use Rattle.input_logger.proofs.log.InputLog.input.Goals as goal

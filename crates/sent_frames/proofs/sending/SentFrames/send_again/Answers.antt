@@ -1,6 +1,6 @@
 use Rattle.std.proofs.Common.{sym, subst}
 use Rattle.std.proofs.lemmas.Result.{on_ok_weaker}
-use Rattle.access_log.specs.declared.entry.Output.{Output}
+use Rattle.wire_frames.specs.FromAccessLog.{Output}
 use Rattle.plain_text.specs.declared.kind.Kind.TheVariants.{Out}
 use Rattle.link_store.specs.Links.{address, Sends}
 use Rattle.wire_frames.specs.declared.frame.Frame.TheVariants as frame

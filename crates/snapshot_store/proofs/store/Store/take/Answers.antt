@@ -1,5 +1,5 @@
 use Rattle.std.proofs.Common.{rules, ◌≡◌, length}
-use Rattle.box_program.specs.Hands.{FitsProgram}
+use Rattle.master_core.specs.FromBoxProgram.{FitsProgram}
 use Rattle.master_core.specs.Mastered.{value_of}
 use Rattle.master_core.specs.Deltas.{applied}
 use Rattle.snapshot_store.specs.declared.store.Taken.{Taken}

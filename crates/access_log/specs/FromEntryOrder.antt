@@ -1,0 +1,3 @@
+-- Definitions of the crate entry_order that crates above this one name, passed on.
+pub use Rattle.entry_order.specs.declared.what.What.{What}
+pub use Rattle.entry_order.specs.declared.what.What.TheVariants.{Access, Clock, Draw, Read}

@@ -1,0 +1,2 @@
+-- Definitions of the crate run_end that crates above this one name, passed on.
+pub use Rattle.run_end.specs.Ending.{EndsIn}

@@ -1,0 +1,4 @@
+-- Definitions of the crate system_parts that crates above this one name, passed on.
+pub use Rattle.system_parts.specs.Parts.{AreParts, Parts}
+pub use Rattle.system_parts.specs.Resting.{RestsFor}
+pub use Rattle.system_parts.specs.SystemStanding.{StandsFor}
