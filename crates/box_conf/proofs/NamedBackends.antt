@@ -96,7 +96,7 @@ balancer_names lines kind.Count conf x is = absurd (subst (λ (c : BoxConf). IsO
 balancer_names lines kind.Monitor conf x is = absurd (subst (λ (c : BoxConf). IsOneOf c.kind) x.says is)
 balancer_names lines kind.Nat conf x is = absurd (subst (λ (c : BoxConf). IsOneOf c.kind) x.says is)
 balancer_names lines kind.Balancer conf x is =
-    let line = x.whole (row_of Backend) (inr (inr (inr (inr (inr (inl refl)))))) refl in
+    let line = x.whole (row_of Backend) (inr (inr (inr (inr (inr (inr (inl refl))))))) refl in
     named_there (rows_of kind.Balancer) no_names lines line.0 line.1 line.2 line.3
 
 pub some_named : (text : List ℕ) (k : KindWord) (s : Settings)

@@ -15,7 +15,7 @@ use Rattle.box_conf.specs.declared.kind.KindWord.{KindWord}
 use Rattle.box_conf.specs.declared.kind.KindWord.TheVariants as kind
 use Rattle.box_conf.specs.declared.names.Named.{Named}
 use Rattle.box_conf.specs.declared.table.BoxLine.TheVariants.{Threads, Seed, Shards, Inside, Outside, Ports, Closing}
-use Rattle.box_conf.specs.declared.table.BoxLine.TheVariants.{Limit, Icmp, Static, Virtual, Backend}
+use Rattle.box_conf.specs.declared.table.BoxLine.TheVariants.{Vlan, Limit, Icmp, Static, Virtual, Backend}
 use Rattle.box_conf.specs.declared.table.BoxLine.{BoxLine}
 use Rattle.box_conf.specs.Names.{named_in, names_fault, no_names}
 use Rattle.box_conf.specs.BoxFile.{AreOfKind, IsDescribed, IsBoxFile, Names, NamesNone, LeavesTable, NamesInVain}
@@ -66,6 +66,7 @@ abbrev of_once : (BoxLine → List ℕ) → (BoxLine → List ℕ) → BoxLine �
 of_once values others Threads = values Threads
 of_once values others Seed = values Seed
 of_once values others Shards = values Shards
+of_once values others Vlan = values Vlan
 of_once values others Inside = values Inside
 of_once values others Outside = values Outside
 of_once values others Ports = values Ports
@@ -101,6 +102,7 @@ of_one_kind text kind a b x y =
     same Threads = one Threads refl
     same Seed = one Seed refl
     same Shards = one Shards refl
+    same Vlan = one Vlan refl
     same Inside = one Inside refl
     same Outside = one Outside refl
     same Ports = one Ports refl

@@ -10,7 +10,7 @@ use Rattle.box_conf.specs.declared.kind.KindWord.{KindWord}
 use Rattle.box_conf.specs.declared.settings.Settings.{Settings}
 use Rattle.box_conf.specs.declared.table.BoxLine.{BoxLine}
 use Rattle.box_conf.specs.declared.table.BoxLine.TheVariants.{Threads, Seed, Shards, Inside, Outside, Ports, Closing}
-use Rattle.box_conf.specs.declared.table.BoxLine.TheVariants.{Limit, Icmp, Static, Virtual, Backend}
+use Rattle.box_conf.specs.declared.table.BoxLine.TheVariants.{Vlan, Limit, Icmp, Static, Virtual, Backend}
 use Rattle.box_conf.specs.declared.table.Values.{Values}
 use Rattle.box_conf.specs.Kinds.{rows_of}
 use Rattle.box_conf.specs.Reading.{set_line}
@@ -85,6 +85,7 @@ says_within : (line : BoxLine) (words : List (List ℕ)) (values : List ℕ) →
 says_within Threads words values s f = one_within 1 16 words values s
 says_within Seed words values s f = tt
 says_within Shards words values s f = one_within 1 64 words values s
+says_within Vlan words values s f = tt
 says_within Inside words values s f =
     let second = length_within 1 32 words values s in
     (address_within (Number 1 32 ∷ []) words values s, second.0, second.1)

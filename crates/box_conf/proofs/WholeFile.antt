@@ -18,7 +18,7 @@ use Rattle.box_conf.specs.declared.settings.Settings.{Settings}
 use Rattle.box_conf.specs.declared.kind.KindWord.{KindWord}
 use Rattle.box_conf.specs.declared.table.BoxLine.{BoxLine}
 use Rattle.box_conf.specs.declared.table.BoxLine.TheVariants.{Threads, Seed, Shards, Inside, Outside, Ports, Closing}
-use Rattle.box_conf.specs.declared.table.BoxLine.TheVariants.{Limit, Icmp, Static, Virtual, Backend}
+use Rattle.box_conf.specs.declared.table.BoxLine.TheVariants.{Vlan, Limit, Icmp, Static, Virtual, Backend}
 use Rattle.box_conf.specs.declared.table.Values.{Values}
 use Rattle.box_conf.specs.Names.{named_in}
 use Rattle.box_conf.specs.BoxFile.{AreOfKind, Names, NamesNone, Has as HasValues}
@@ -36,12 +36,14 @@ Line = ℕ × List ℕ
 
 abbrev line_in : List ℕ → Option BoxLine
 line_in word = find (λ line. bytes_eq word (word_of line))
-    (Threads ∷ Seed ∷ Shards ∷ Inside ∷ Outside ∷ Ports ∷ Closing ∷ Limit ∷ Icmp ∷ Static ∷ Virtual ∷ Backend ∷ [])
+    (Threads ∷ Seed ∷ Shards ∷ Vlan ∷ Inside ∷ Outside ∷ Ports ∷ Closing ∷ Limit ∷ Icmp ∷ Static ∷ Virtual ∷ Backend
+    ∷ [])
 
 line_back : (line : BoxLine) → line_in (word_of line) ≡ Some line
 line_back Threads = refl
 line_back Seed = refl
 line_back Shards = refl
+line_back Vlan = refl
 line_back Inside = refl
 line_back Outside = refl
 line_back Ports = refl
@@ -68,6 +70,7 @@ pub set_or : (s : Settings) (a b : BoxLine) (v : Values)
 set_or s Threads Threads v = inr (refl, refl)
 set_or s Seed Seed v = inr (refl, refl)
 set_or s Shards Shards v = inr (refl, refl)
+set_or s Vlan Vlan v = inr (refl, refl)
 set_or s Inside Inside v = inr (refl, refl)
 set_or s Outside Outside v = inr (refl, refl)
 set_or s Ports Ports v = inr (refl, refl)
@@ -80,6 +83,7 @@ set_or s Backend Backend v = inr (refl, refl)
 set_or s Threads other v = inl ((λ e. cc), refl)
 set_or s Seed other v = inl ((λ e. cc), refl)
 set_or s Shards other v = inl ((λ e. cc), refl)
+set_or s Vlan other v = inl ((λ e. cc), refl)
 set_or s Inside other v = inl ((λ e. cc), refl)
 set_or s Outside other v = inl ((λ e. cc), refl)
 set_or s Ports other v = inl ((λ e. cc), refl)
@@ -335,6 +339,7 @@ begins kind first rest n index rising names = record {
     unset Threads = none_of Threads
     unset Seed = none_of Seed
     unset Shards = none_of Shards
+    unset Vlan = none_of Vlan
     unset Inside = none_of Inside
     unset Outside = none_of Outside
     unset Ports = none_of Ports

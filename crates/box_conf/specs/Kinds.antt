@@ -3,11 +3,13 @@
 -- It is the one place that ties a kind to a program: contracts of the commands speak of the meaning of the kind, and of
 -- no box by name.
 use Rattle.std.specs.Prelude.{ℕ, ◌&&◌, true, false, List, [], ◌∷◌, map, find, codes, is_none, Option, Some, None}
-use Rattle.std.specs.Prelude.{◌==◌, if◌then◌else◌}
+use Rattle.std.specs.Prelude.{Bool, ◌==◌, if◌then◌else◌}
 use Rattle.std.specs.Str.{bytes_eq}
 use Rattle.plain_text.specs.Grammar.{Row, OneOf}
 use Rattle.plain_machine.specs.Program.{Meaning}
 use Rattle.box_program.specs.Count.{count_meaning}
+use Rattle.tagged_box.specs.declared.tagged.Tagged.{Tagged}
+use Rattle.tagged_box.specs.Tagged.{tagged_meaning}
 use Rattle.monitor_box.specs.declared.value.MonitorValue.{MonitorValue}
 use Rattle.monitor_box.specs.Boxes as monitor
 use Rattle.balancer_box.specs.declared.backends.Backend.{Backend}
@@ -28,7 +30,7 @@ use Rattle.box_conf.specs.declared.settings.Settings.{Settings}
 use Rattle.box_conf.specs.declared.table.BoxLine.{BoxLine}
 use Rattle.box_conf.specs.declared.table.BoxLine.TheVariants as line
 use Rattle.box_conf.specs.declared.table.BoxLine.TheVariants.{Threads, Seed, Shards, Inside, Outside, Ports, Closing}
-use Rattle.box_conf.specs.declared.table.BoxLine.TheVariants.{Limit, Icmp, Static, Virtual}
+use Rattle.box_conf.specs.declared.table.BoxLine.TheVariants.{Vlan, Limit, Icmp, Static, Virtual}
 use Rattle.box_conf.specs.declared.table.Values.{Values}
 use Rattle.box_conf.specs.Settings.{setting}
 use Rattle.box_conf.specs.Table.{row_of, usual_of, word_of}
@@ -45,10 +47,11 @@ kind_word kind.Nat = codes "nat"
 kind_word kind.Balancer = codes "balancer"
 
 abbrev pub lines_of : KindWord → List BoxLine
-lines_of kind.Count = Threads ∷ Seed ∷ []
-lines_of kind.Monitor = Threads ∷ Seed ∷ Shards ∷ []
-lines_of kind.Nat = Threads ∷ Seed ∷ Shards ∷ Inside ∷ Outside ∷ Ports ∷ Closing ∷ Limit ∷ Icmp ∷ Static ∷ []
-lines_of kind.Balancer = Threads ∷ Seed ∷ Shards ∷ Virtual ∷ line.Backend ∷ Closing ∷ []
+lines_of kind.Count = Threads ∷ Seed ∷ Vlan ∷ []
+lines_of kind.Monitor = Threads ∷ Seed ∷ Shards ∷ Vlan ∷ []
+lines_of kind.Nat =
+    Threads ∷ Seed ∷ Shards ∷ Vlan ∷ Inside ∷ Outside ∷ Ports ∷ Closing ∷ Limit ∷ Icmp ∷ Static ∷ []
+lines_of kind.Balancer = Threads ∷ Seed ∷ Shards ∷ Vlan ∷ Virtual ∷ line.Backend ∷ Closing ∷ []
 
 -- the number of a line such as `closing`; none where it is not there
 abbrev pub number_of : ℕ → Option ℕ
@@ -69,12 +72,20 @@ balancer_from values backends =
     balancer.with_closing (number_of (values Closing).first)
     (balancer.box_with (values Shards).first (values Virtual).first (values Virtual).second backends)
 
+-- whether one VLAN tag is looked through (IEEE 802.1Q): the line `vlan` stands
+abbrev pub has_tags : (BoxLine → Values) → Bool
+has_tags values = (values Vlan).first == 0
+
+-- a program, which looks through tags where that line stands
+abbrev pub tagged_from : {P : Type 0} → (BoxLine → Values) → P → Tagged P
+tagged_from values program = record { program = program; tags = has_tags values }
+
 -- the box, where the lines have these values and these names
 abbrev pub box_from : KindWord → (BoxLine → Values) → Named → BoxKind
-box_from kind.Count values names = Count (record {})
-box_from kind.Monitor values names = Monitor (monitor.box_with (values Shards).first)
-box_from kind.Nat values names = Nat (nat_from values names.statics)
-box_from kind.Balancer values names = Balancer (balancer_from values names.backends)
+box_from kind.Count values names = Count (tagged_from values (record {}))
+box_from kind.Monitor values names = Monitor (tagged_from values (monitor.box_with (values Shards).first))
+box_from kind.Nat values names = Nat (tagged_from values (nat_from values names.statics))
+box_from kind.Balancer values names = Balancer (tagged_from values (balancer_from values names.backends))
 
 -- the meaning of a program, with the kind of value that its variables have
 pub record AnyMeaning : Type 1 where
@@ -82,10 +93,12 @@ pub record AnyMeaning : Type 1 where
   pub meaning : Meaning value
 
 abbrev pub meaning_of : BoxKind → AnyMeaning
-meaning_of (Count box) = record { value = ℕ; meaning = count_meaning }
-meaning_of (Monitor box) = record { value = MonitorValue; meaning = monitor.box_meaning box }
-meaning_of (Nat box) = record { value = NatValue; meaning = nat.box_meaning box }
-meaning_of (Balancer box) = record { value = BalancerValue; meaning = balancer.box_meaning box }
+meaning_of (Count box) = record { value = ℕ; meaning = tagged_meaning box.tags count_meaning }
+meaning_of (Monitor box) =
+    record { value = MonitorValue; meaning = tagged_meaning box.tags (monitor.box_meaning box.program) }
+meaning_of (Nat box) = record { value = NatValue; meaning = tagged_meaning box.tags (nat.box_meaning box.program) }
+meaning_of (Balancer box) =
+    record { value = BalancerValue; meaning = tagged_meaning box.tags (balancer.box_meaning box.program) }
 
 -- Of all kinds
 
@@ -114,8 +127,12 @@ abbrev pub missing_line : KindWord → Settings → Option BoxLine
 missing_line kind settings = find (λ line. is_none (usual_of line) && is_none (setting settings line)) (lines_of kind)
 
 abbrev pub conf_from : KindWord → (BoxLine → Values) → Named → BoxConf
-conf_from kind values names =
-    record { threads = (values Threads).first; seed = (values Seed).first; kind = box_from kind values names }
+conf_from kind values names = record {
+  threads = (values Threads).first;
+  seed = (values Seed).first;
+  tags = has_tags values;
+  kind = box_from kind values names;
+}
 
 -- a kind whose file names backends
 abbrev pub IsBalancer : KindWord → Type 0

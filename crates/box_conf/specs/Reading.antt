@@ -67,6 +67,7 @@ no_settings = record {
   threads = None;
   seed = None;
   shards = None;
+  vlan = None;
   inside = None;
   outside = None;
   ports = None;

@@ -8,7 +8,7 @@ use Rattle.box_conf.specs.declared.settings.ReadValues.{ReadValues}
 use Rattle.box_conf.specs.declared.settings.Settings.{Settings}
 use Rattle.box_conf.specs.declared.table.BoxLine.{BoxLine}
 use Rattle.box_conf.specs.declared.table.BoxLine.TheVariants.{Threads, Seed, Shards, Inside, Outside, Ports, Closing}
-use Rattle.box_conf.specs.declared.table.BoxLine.TheVariants.{Limit, Icmp, Static, Virtual, Backend}
+use Rattle.box_conf.specs.declared.table.BoxLine.TheVariants.{Vlan, Limit, Icmp, Static, Virtual, Backend}
 use Rattle.box_conf.specs.declared.table.LinePlace.{LinePlace}
 use Rattle.box_conf.specs.declared.table.Values.{Values}
 use Rattle.box_conf.specs.Table.{again_of, fits_of, grammar_place, row_of, usual_of, values_from}
@@ -17,6 +17,7 @@ abbrev pub setting : Settings → BoxLine → Option Values
 setting s Threads = s.threads
 setting s Seed = s.seed
 setting s Shards = s.shards
+setting s Vlan = s.vlan
 setting s Inside = s.inside
 setting s Outside = s.outside
 setting s Ports = s.ports
@@ -31,6 +32,7 @@ abbrev pub with_setting : Settings → BoxLine → Values → Settings
 with_setting s Threads values = record s { threads = Some values }
 with_setting s Seed values = record s { seed = Some values }
 with_setting s Shards values = record s { shards = Some values }
+with_setting s Vlan values = record s { vlan = Some values }
 with_setting s Inside values = record s { inside = Some values }
 with_setting s Outside values = record s { outside = Some values }
 with_setting s Ports values = record s { ports = Some values }
@@ -102,6 +104,7 @@ abbrev pub IsWithin : BoxLine → Values → Type 0
 IsWithin Threads values = (1 ≤ values.first) × (values.first ≤ 16)
 IsWithin Seed values = Unit {0}
 IsWithin Shards values = (1 ≤ values.first) × (values.first ≤ 64)
+IsWithin Vlan values = Unit {0}
 IsWithin Inside values = (values.first < 2 ^ 32) × (1 ≤ values.second) × (values.second ≤ 32)
 IsWithin Outside values = values.first < 2 ^ 32
 IsWithin Ports values = (1 ≤ values.first) × (values.first ≤ values.second) × (values.second ≤ 65535)

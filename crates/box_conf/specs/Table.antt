@@ -7,7 +7,7 @@ use Rattle.plain_text.specs.Grammar.{Place, Row}
 use Rattle.plain_text.specs.Grammar as place
 use Rattle.box_conf.specs.declared.table.BoxLine.{BoxLine}
 use Rattle.box_conf.specs.declared.table.BoxLine.TheVariants.{Threads, Seed, Shards, Inside, Outside, Ports, Closing}
-use Rattle.box_conf.specs.declared.table.BoxLine.TheVariants.{Limit, Icmp, Static, Virtual, Backend}
+use Rattle.box_conf.specs.declared.table.BoxLine.TheVariants.{Vlan, Limit, Icmp, Static, Virtual, Backend}
 use Rattle.box_conf.specs.declared.table.LinePlace.{LinePlace}
 use Rattle.box_conf.specs.declared.table.LinePlace.TheVariants.{Number, Address, Protocol, Errors}
 use Rattle.box_conf.specs.declared.table.Values.{Values}
@@ -18,6 +18,7 @@ abbrev pub word_of : BoxLine → List ℕ
 word_of Threads = codes "threads"
 word_of Seed = codes "seed"
 word_of Shards = codes "shards"
+word_of Vlan = codes "vlan"
 word_of Inside = codes "inside"
 word_of Outside = codes "outside"
 word_of Ports = codes "ports"
@@ -32,6 +33,7 @@ abbrev pub places_of : BoxLine → List LinePlace
 places_of Threads = Number 1 16 ∷ []
 places_of Seed = Number 0 (2 ^ 64 - 1) ∷ []
 places_of Shards = Number 1 64 ∷ []
+places_of Vlan = []
 places_of Inside = Address ∷ Number 1 32 ∷ []
 places_of Outside = Address ∷ []
 places_of Ports = Number 1 65535 ∷ Number 1 65535 ∷ []
@@ -47,6 +49,7 @@ abbrev pub fits_of : BoxLine → Values → Bool
 fits_of Threads values = true
 fits_of Seed values = true
 fits_of Shards values = true
+fits_of Vlan values = true
 fits_of Inside values = true
 fits_of Outside values = true
 fits_of Ports values = nat_le values.first values.second
@@ -62,6 +65,7 @@ abbrev pub again_of : BoxLine → Bool
 again_of Threads = false
 again_of Seed = false
 again_of Shards = false
+again_of Vlan = false
 again_of Inside = false
 again_of Outside = false
 again_of Ports = false
@@ -72,11 +76,12 @@ again_of Static = true
 again_of Virtual = false
 again_of Backend = true
 
--- `icmp` has the index of its word, and 1 where it is not there
+-- `icmp` has the index of its word, and 1 where it is not there; `vlan` has no word, so 0, and 1 where it is not there
 abbrev pub usual_of : BoxLine → Option (List ℕ)
 usual_of Threads = Some (1 ∷ [])
 usual_of Seed = Some (0 ∷ [])
 usual_of Shards = Some (16 ∷ [])
+usual_of Vlan = Some (1 ∷ [])
 usual_of Inside = None
 usual_of Outside = None
 usual_of Ports = Some (1024 ∷ 65535 ∷ [])

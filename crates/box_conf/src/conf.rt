@@ -7,7 +7,7 @@ ghost use Rattle.box_conf.specs.Reading.{box_of, described_box, earlier, box_lin
 ghost use Rattle.box_conf.specs.Reading.{set_line};
 ghost use Rattle.box_conf.specs.Settings.{AreInRange, values_set};
 
-use crate::kind::{BoxConf, KindWord};
+use crate::kind::{BoxConf, KindWord, has_tags};
 use crate::names::{Named, read_names};
 use crate::settings::{Settings, read_line};
 use crate::table::BoxLine;
@@ -26,6 +26,7 @@ const BOX: &[u8] = b"box";
 /// | `threads N` | all | 1 to 16 | 1 |
 /// | `seed S` | all | any number | 0 |
 /// | `shards S` | `monitor`, `nat`, `balancer` | 1 to 64 | 16 |
+/// | `vlan` | all | | tags are not looked through |
 /// | `inside ADDRESS LENGTH` | `nat` | a length of 1 to 32 bits | a fault |
 /// | `outside ADDRESS` | `nat` | any address | a fault |
 /// | `ports LOW HIGH` | `nat` | 1 to 65,535, LOW at most HIGH | 1024 65535 |
@@ -103,6 +104,7 @@ fn read_settings(text: &[u8]) -> Result<SetLines, LineFault>
         threads: None,
         seed: None,
         shards: None,
+        vlan: None,
         inside: None,
         outside: None,
         ports: None,
@@ -137,6 +139,7 @@ fn make_conf(kind: KindWord, settings: Settings, names: Named) -> BoxConf
     BoxConf {
         threads: settings.values(BoxLine::Threads).first as u32,
         seed: settings.values(BoxLine::Seed).first,
+        tags: has_tags(settings),
         kind: kind.make(settings, names),
     }
 }

@@ -1,6 +1,6 @@
 ghost use Rattle.std.specs.Prelude.{◌≡◌, ◌≤◌, ◌<◌, ◌^◌, true, None, is_some, length};
 ghost use Rattle.box_conf.specs.Kinds.{kind_named, lines_of, line_named, missing_line, box_from};
-ghost use Rattle.box_conf.specs.Kinds.{number_of, nat_from, balancer_from, IsBalancer};
+ghost use Rattle.box_conf.specs.Kinds.{number_of, nat_from, balancer_from, has_tags, IsBalancer};
 ghost use Rattle.box_conf.specs.Settings.{AreInRange, setting, values_set};
 ghost use Rattle.box_conf.specs.declared.table.BoxLine.TheVariants.{Inside, Outside, Virtual};
 
@@ -12,14 +12,15 @@ use box_program::CountBox;
 use flow_boxes::ShortList;
 use monitor_box::MonitorBox;
 use nat_box::{NatBox, StaticPort};
+use tagged_box::Tagged;
 
 /// The box that runs, with its settings.
 #[derive(Debug, Drop)]
 pub enum BoxKind {
-    Count(CountBox),
-    Monitor(MonitorBox),
-    Nat(NatBox),
-    Balancer(BalancerBox),
+    Count(Tagged<CountBox>),
+    Monitor(Tagged<MonitorBox>),
+    Nat(Tagged<NatBox>),
+    Balancer(Tagged<BalancerBox>),
 }
 
 /// What a box file says.
@@ -29,6 +30,8 @@ pub struct BoxConf {
     pub threads: u32,
     /// The seed of its random words.
     pub seed: u64,
+    /// Whether one VLAN tag is looked through (IEEE 802.1Q).
+    pub tags: bool,
     /// Which box it is.
     pub kind: BoxKind,
 }
@@ -65,12 +68,18 @@ impl KindWord {
         ensures { result.now ≡ lines_of self }
     {
         match self {
-            KindWord::Count => &[BoxLine::Threads, BoxLine::Seed],
-            KindWord::Monitor => &[BoxLine::Threads, BoxLine::Seed, BoxLine::Shards],
+            KindWord::Count => &[BoxLine::Threads, BoxLine::Seed, BoxLine::Vlan],
+            KindWord::Monitor => &[
+                BoxLine::Threads,
+                BoxLine::Seed,
+                BoxLine::Shards,
+                BoxLine::Vlan,
+            ],
             KindWord::Nat => &[
                 BoxLine::Threads,
                 BoxLine::Seed,
                 BoxLine::Shards,
+                BoxLine::Vlan,
                 BoxLine::Inside,
                 BoxLine::Outside,
                 BoxLine::Ports,
@@ -83,6 +92,7 @@ impl KindWord {
                 BoxLine::Threads,
                 BoxLine::Seed,
                 BoxLine::Shards,
+                BoxLine::Vlan,
                 BoxLine::Virtual,
                 BoxLine::Backend,
                 BoxLine::Closing,
@@ -98,14 +108,27 @@ impl KindWord {
         requires few { length names.backends ≤ 64 }
         ensures { result ≡ box_from self (values_set settings) names }
     {
+        let tags = has_tags(settings);
         match self {
-            KindWord::Count => BoxKind::Count(CountBox::new()),
+            KindWord::Count => BoxKind::Count(Tagged {
+                program: CountBox::new(),
+                tags,
+            }),
             KindWord::Monitor => {
                 let shards = settings.values(BoxLine::Shards).first;
-                BoxKind::Monitor(MonitorBox::new(shards as u32))
+                BoxKind::Monitor(Tagged {
+                    program: MonitorBox::new(shards as u32),
+                    tags,
+                })
             }
-            KindWord::Nat => BoxKind::Nat(make_nat(settings, names.statics)),
-            KindWord::Balancer => BoxKind::Balancer(make_balancer(settings, names.backends)),
+            KindWord::Nat => BoxKind::Nat(Tagged {
+                program: make_nat(settings, names.statics),
+                tags,
+            }),
+            KindWord::Balancer => BoxKind::Balancer(Tagged {
+                program: make_balancer(settings, names.backends),
+                tags,
+            }),
         }
     }
 
@@ -126,6 +149,14 @@ impl KindWord {
             .copied()
             .find(|line| word == line.word())
     }
+}
+
+/// Whether one VLAN tag is looked through (IEEE 802.1Q): the line `vlan` stands.
+pub fn has_tags(settings: Settings) -> bool
+    requires { AreInRange settings }
+    ensures { result ≡ has_tags (values_set settings) }
+{
+    settings.values(BoxLine::Vlan).first == 0
 }
 
 /// The number of a line such as `closing`; none where it is not there.

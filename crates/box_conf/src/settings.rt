@@ -14,6 +14,7 @@ pub struct Settings {
     pub threads: Option<Values>,
     pub seed: Option<Values>,
     pub shards: Option<Values>,
+    pub vlan: Option<Values>,
     pub inside: Option<Values>,
     pub outside: Option<Values>,
     pub ports: Option<Values>,
@@ -36,6 +37,7 @@ impl Settings {
             BoxLine::Threads => self.threads,
             BoxLine::Seed => self.seed,
             BoxLine::Shards => self.shards,
+            BoxLine::Vlan => self.vlan,
             BoxLine::Inside => self.inside,
             BoxLine::Outside => self.outside,
             BoxLine::Ports => self.ports,
@@ -63,6 +65,7 @@ impl Settings {
                 shards: set,
                 ..self
             },
+            BoxLine::Vlan => Settings { vlan: set, ..self },
             BoxLine::Inside => Settings {
                 inside: set,
                 ..self

@@ -12,6 +12,7 @@ pub enum BoxLine {
     Threads,
     Seed,
     Shards,
+    Vlan,
     Inside,
     Outside,
     Ports,
@@ -135,6 +136,7 @@ impl BoxLine {
             BoxLine::Threads => b"threads",
             BoxLine::Seed => b"seed",
             BoxLine::Shards => b"shards",
+            BoxLine::Vlan => b"vlan",
             BoxLine::Inside => b"inside",
             BoxLine::Outside => b"outside",
             BoxLine::Ports => b"ports",
@@ -158,6 +160,7 @@ impl BoxLine {
                 high: u64::MAX,
             }],
             BoxLine::Shards => &[LinePlace::Number { low: 1, high: 64 }],
+            BoxLine::Vlan => &[],
             BoxLine::Inside => &[LinePlace::Address, LinePlace::Number { low: 1, high: 32 }],
             BoxLine::Outside => &[LinePlace::Address],
             BoxLine::Ports => &[PORT, PORT],
@@ -194,6 +197,7 @@ impl BoxLine {
             BoxLine::Threads
             | BoxLine::Seed
             | BoxLine::Shards
+            | BoxLine::Vlan
             | BoxLine::Inside
             | BoxLine::Outside
             | BoxLine::Closing
@@ -206,12 +210,12 @@ impl BoxLine {
     }
 
     /// The values that hold where the line is not there. A line that has none has to stand. `closing` is 0 then: no
-    /// connection is followed; `limit` is 0: there is none; and `icmp` is 1: no word stands there.
+    /// connection is followed; `limit` is 0: there is none; and `icmp` and `vlan` are 1: no such line stands.
     pub fn usual(self) -> Option<Values>
         ensures { result ≡ option_map values_from (usual_of self) }
     {
         let (first, second) = match self {
-            BoxLine::Threads | BoxLine::Icmp => (1, 0),
+            BoxLine::Threads | BoxLine::Vlan | BoxLine::Icmp => (1, 0),
             BoxLine::Seed | BoxLine::Closing | BoxLine::Limit | BoxLine::Static => (0, 0),
             BoxLine::Shards => (16, 0),
             BoxLine::Inside | BoxLine::Outside | BoxLine::Virtual | BoxLine::Backend => return None,

@@ -45,7 +45,7 @@ pub record AcceptsResumeSource (names : ResumeNames) (source : ResumeSource) (sh
 abbrev pub resumed_run : ResumeSource → List Event → ScriptRun
 resumed_run source events = record {
   threads = source.conf.threads;
-  tags = false;
+  tags = source.conf.tags;
   seed = source.conf.seed;
   unit = source.capture.unit;
   packets = source.capture.packets;

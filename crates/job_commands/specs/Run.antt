@@ -23,7 +23,7 @@ pub record AcceptsInputs (names : RunNames) (inputs : Inputs) (shown : Shown) : 
 abbrev pub script_of : Inputs → ScriptRun
 script_of inputs = record {
   threads = inputs.conf.threads;
-  tags = false;
+  tags = inputs.conf.tags;
   seed = inputs.conf.seed;
   unit = inputs.capture.unit;
   packets = inputs.capture.packets;

@@ -43,7 +43,7 @@ pub record AcceptsCheckInputs (names : CheckNames) (inputs : CheckInputs) (shown
 abbrev pub schedule_of : ScheduleInputs → ScheduleRun
 schedule_of inputs = record {
   threads = inputs.conf.threads;
-  tags = false;
+  tags = inputs.conf.tags;
   unit = inputs.capture.unit;
   packets = inputs.capture.packets;
   schedule = inputs.schedule;

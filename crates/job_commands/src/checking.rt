@@ -49,7 +49,7 @@ fn check_box<W: World>(
     let played = inputs.played;
     let run = ScheduleRun {
         threads: played.conf.threads,
-        tags: false,
+        tags: played.conf.tags,
         unit: played.capture.unit,
         packets: played.capture.packets,
         schedule: played.schedule,

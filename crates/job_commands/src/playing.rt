@@ -48,7 +48,7 @@ fn play_box<W: World>(
 {
     let run = ScheduleRun {
         threads: inputs.conf.threads,
-        tags: false,
+        tags: inputs.conf.tags,
         unit: inputs.capture.unit,
         packets: inputs.capture.packets,
         schedule: inputs.schedule,

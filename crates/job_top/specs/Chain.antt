@@ -26,12 +26,12 @@ abbrev pub chain_of : ChainInputs → ChainRun
 chain_of inputs = record {
   first = record {
     threads = inputs.source.boxes.first.threads;
-    tags = false;
+    tags = inputs.source.boxes.first.tags;
     seed = inputs.source.boxes.first.seed;
   };
   second = record {
     threads = inputs.source.boxes.second.threads;
-    tags = false;
+    tags = inputs.source.boxes.second.tags;
     seed = inputs.source.boxes.second.seed;
   };
   unit = inputs.source.capture.unit;

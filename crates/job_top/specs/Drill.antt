@@ -37,7 +37,7 @@ has_drop_table (Balancer box) = true
 abbrev pub drill_of : DrillNames → FirstInputs → DrillRun
 drill_of names inputs = record {
   threads = inputs.conf.threads;
-  tags = false;
+  tags = inputs.conf.tags;
   seed = inputs.conf.seed;
   unit = inputs.capture.unit;
   packets = inputs.capture.packets;

@@ -28,7 +28,7 @@ use Rattle.job_commands.specs.Words.{LiveNames}
 abbrev pub plan_of : LiveInputs → PlanRun
 plan_of inputs = record {
   threads = inputs.conf.threads;
-  tags = false;
+  tags = inputs.conf.tags;
   seed = inputs.conf.seed;
   unit = inputs.capture.unit;
   packets = inputs.capture.packets;

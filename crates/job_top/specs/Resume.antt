@@ -141,7 +141,7 @@ pub record CanResume (from : Resumption) : Type 0 where
 abbrev pub resumption_of : ResumeSource → Resumption
 resumption_of source = record {
   threads = source.conf.threads;
-  tags = false;
+  tags = source.conf.tags;
   seed = source.conf.seed;
   unit = source.capture.unit;
   packets = source.capture.packets;

@@ -146,12 +146,12 @@ fn chain_boxes<W: World>(
     let run = ChainRun {
         first: SystemShape {
             threads: boxes.first.threads,
-            tags: false,
+            tags: boxes.first.tags,
             seed: boxes.first.seed,
         },
         second: SystemShape {
             threads: boxes.second.threads,
-            tags: false,
+            tags: boxes.second.tags,
             seed: boxes.second.seed,
         },
         unit: capture.unit,

@@ -65,7 +65,7 @@ fn drill_box<W: World>(
     };
     let run = DrillRun {
         threads: inputs.conf.threads,
-        tags: false,
+        tags: inputs.conf.tags,
         seed: inputs.conf.seed,
         unit: inputs.capture.unit,
         packets: inputs.capture.packets,

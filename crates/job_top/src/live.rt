@@ -58,7 +58,7 @@ fn live_box<W: World, C: Clock + Sync, G: Gate + Sync, R: AllocGlobal + Threads 
     };
     let run = PlanRun {
         threads: inputs.conf.threads,
-        tags: false,
+        tags: inputs.conf.tags,
         seed: inputs.conf.seed,
         unit: inputs.capture.unit,
         packets: inputs.capture.packets,

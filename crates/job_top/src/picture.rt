@@ -45,7 +45,7 @@ fn draw_box<W: World>(
 {
     let run = ScriptRun {
         threads: inputs.conf.threads,
-        tags: false,
+        tags: inputs.conf.tags,
         seed: inputs.conf.seed,
         unit: inputs.capture.unit,
         packets: inputs.capture.packets,

@@ -189,7 +189,7 @@ fn resume_kinds<W: World>(
     let conf = source.conf;
     let from = Resumption {
         threads: conf.threads,
-        tags: false,
+        tags: conf.tags,
         seed: conf.seed,
         unit: source.capture.unit,
         packets: source.capture.packets,

@@ -70,7 +70,7 @@ fn run_box<W: World>(
     };
     let run = ScriptRun {
         threads: inputs.conf.threads,
-        tags: false,
+        tags: inputs.conf.tags,
         seed: inputs.conf.seed,
         unit: inputs.capture.unit,
         packets: inputs.capture.packets,

@@ -58,7 +58,7 @@ fn trace_box<W: World>(
     let register = drop_register(&inputs.conf.kind);
     let run = ScriptRun {
         threads: inputs.conf.threads,
-        tags: false,
+        tags: inputs.conf.tags,
         seed: inputs.conf.seed,
         unit: inputs.capture.unit,
         packets: inputs.capture.packets,

@@ -9,7 +9,7 @@ use tagged_frames::tag_length;
 
 /// A box that sees each packet behind its VLAN tag, where tags are looked through (IEEE 802.1Q): what it sends out has
 /// the bytes that were not seen in front again. Where they are not, it is the box itself.
-#[derive(Drop)]
+#[derive(Debug, Drop)]
 pub struct Tagged<P> {
     pub program: P,
     /// Whether tags are looked through.

@@ -16,19 +16,19 @@ struct Read {
 fn settings_of(kind: &BoxKind) -> [u64; 6] {
     match kind {
         BoxKind::Count(_) => [0; 6],
-        BoxKind::Monitor(monitor) => [u64::from(monitor.shards), 0, 0, 0, 0, 0],
+        BoxKind::Monitor(monitor) => [u64::from(monitor.program.shards), 0, 0, 0, 0, 0],
         BoxKind::Nat(nat) => [
-            u64::from(nat.shards),
-            u64::from(nat.inside),
-            u64::from(nat.length),
-            u64::from(nat.outside),
-            u64::from(nat.low),
-            u64::from(nat.high),
+            u64::from(nat.program.shards),
+            u64::from(nat.program.inside),
+            u64::from(nat.program.length),
+            u64::from(nat.program.outside),
+            u64::from(nat.program.low),
+            u64::from(nat.program.high),
         ],
         BoxKind::Balancer(balancer) => [
-            u64::from(balancer.shards),
-            u64::from(balancer.address),
-            u64::from(balancer.port),
+            u64::from(balancer.program.shards),
+            u64::from(balancer.program.address),
+            u64::from(balancer.program.port),
             0,
             0,
             0,
@@ -41,7 +41,7 @@ fn has_backends(kind: &BoxKind, wanted: &[(u32, u16)]) -> bool {
     let BoxKind::Balancer(balancer) = kind else {
         return wanted.is_empty();
     };
-    let backends = balancer.backends.as_slice();
+    let backends = balancer.program.backends.as_slice();
     for (backend, (address, port)) in backends.iter().zip(wanted) {
         if backend.address != *address || backend.port != *port {
             return false;
@@ -165,8 +165,8 @@ fn reads_box_files(rt: HostRuntime) {
 fn has_closing(text: &str, wanted: Option<u32>) -> bool {
     match read_box(text.as_bytes()) {
         Ok(conf) => match &conf.kind {
-            BoxKind::Nat(nat) => nat.closing == wanted,
-            BoxKind::Balancer(balancer) => balancer.closing == wanted,
+            BoxKind::Nat(nat) => nat.program.closing == wanted,
+            BoxKind::Balancer(balancer) => balancer.program.closing == wanted,
             BoxKind::Count(_) | BoxKind::Monitor(_) => false,
         },
         Err(_) => false,
@@ -191,7 +191,7 @@ fn reads_the_line_closing(rt: HostRuntime) {
 fn has_limit(text: &str, wanted: Option<u32>) -> bool {
     match read_box(text.as_bytes()) {
         Ok(conf) => match &conf.kind {
-            BoxKind::Nat(nat) => nat.limit == wanted,
+            BoxKind::Nat(nat) => nat.program.limit == wanted,
             BoxKind::Count(_) | BoxKind::Monitor(_) | BoxKind::Balancer(_) => false,
         },
         Err(_) => false,
@@ -220,7 +220,7 @@ fn has_statics(text: &str, errors: bool, wanted: &[(u8, u32, u16, u16)]) -> bool
     let BoxKind::Nat(nat) = &conf.kind else {
         return false;
     };
-    let statics = nat.statics.as_slice();
+    let statics = nat.program.statics.as_slice();
     for (one, (protocol, address, port, outside)) in statics.iter().zip(wanted) {
         if (one.protocol, one.address) != (*protocol, *address) {
             return false;
@@ -229,7 +229,7 @@ fn has_statics(text: &str, errors: bool, wanted: &[(u8, u32, u16, u16)]) -> bool
             return false;
         }
     }
-    nat.errors == errors && statics.len() == wanted.len()
+    nat.program.errors == errors && statics.len() == wanted.len()
 }
 
 #[test]
@@ -254,6 +254,50 @@ fn reads_static_ports(rt: HostRuntime) {
         (6, 0, 1, 65535),
     ];
     assert!(rt; has_statics(several, true, &wanted));
+}
+
+/// Whether the box looks through tags.
+fn box_tags(kind: &BoxKind) -> bool {
+    match kind {
+        BoxKind::Count(count) => count.tags,
+        BoxKind::Monitor(monitor) => monitor.tags,
+        BoxKind::Nat(nat) => nat.tags,
+        BoxKind::Balancer(balancer) => balancer.tags,
+    }
+}
+
+/// Whether the box file is one of a box that looks through tags or not, as its threads do.
+fn has_tags(text: &str, wanted: bool) -> bool {
+    match read_box(text.as_bytes()) {
+        Ok(conf) => conf.tags == wanted && box_tags(&conf.kind) == wanted,
+        Err(_) => false,
+    }
+}
+
+/// Box files of each kind without the line `vlan`, and with it.
+const TAGGED: [(&str, &str); 5] = [
+    ("box count", "box count\nvlan"),
+    (
+        "box count\nthreads 4\nseed 7",
+        "box count\nthreads 4\n\n vlan\t\r\nseed 7",
+    ),
+    ("box monitor\nshards 4", "box monitor\nvlan\nshards 4"),
+    (
+        "box nat\ninside 10.0.0.0 8\noutside 203.0.113.1\nicmp errors",
+        "box nat\ninside 10.0.0.0 8\noutside 203.0.113.1\nicmp errors\nvlan",
+    ),
+    (
+        "box balancer\nvirtual 10.0.0.1 53\nbackend 10.1.0.1 53",
+        "box balancer\nvirtual 10.0.0.1 53\nvlan\nbackend 10.1.0.1 53",
+    ),
+];
+
+#[test]
+fn reads_the_line_vlan(rt: HostRuntime) {
+    for (without, with) in TAGGED {
+        assert!(rt; has_tags(without, false), "at {without:?}");
+        assert!(rt; has_tags(with, true), "at {with:?}");
+    }
 }
 
 /// Whether a text is no box file, with this text of its first fault.
@@ -422,6 +466,19 @@ const STATIC_FAULTS: [Row; 32] = [
     ),
 ];
 
+/// The same for the line `vlan`.
+const VLAN_FAULTS: [Row; 9] = [
+    ("vlan", "line 1: unknown word"),
+    ("box count\nvlan 5", "line 2: extra word"),
+    ("box count\nvlan on", "line 2: extra word"),
+    ("box count\nVLAN", "line 2: unknown word"),
+    ("box count\nvlan\nvlan", "line 3: twice"),
+    ("box monitor\nvlan\nshards 4\nvlan", "line 4: twice"),
+    ("box nat\nvlan\nvlan 1", "line 3: extra word"),
+    ("box nat\nvlan", "line 3: missing line"),
+    ("box balancer\nvlan\nvlan", "line 3: twice"),
+];
+
 /// The same for a balancer.
 const BALANCER_FAULTS: [Row; 20] = [
     ("box balancer\nclosing", "line 2: missing word"),
@@ -465,11 +522,12 @@ const BALANCER_FAULTS: [Row; 20] = [
 ];
 
 /// All of them.
-const ALL_FAULTS: [&[Row]; 5] = [
+const ALL_FAULTS: [&[Row]; 6] = [
     &FAULTS,
     &NAT_FAULTS,
     &LIMIT_FAULTS,
     &STATIC_FAULTS,
+    &VLAN_FAULTS,
     &BALANCER_FAULTS,
 ];
 

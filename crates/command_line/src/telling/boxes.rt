@@ -49,8 +49,8 @@ pub fn warn<R: AllocGlobal + Files + Eprint>(rt: &R, name: &Text) -> io::Result<
     };
     let doubt = match &conf.kind {
         BoxKind::Count(_) | BoxKind::Monitor(_) => None,
-        BoxKind::Nat(nat) => doubt_of_nat(nat),
-        BoxKind::Balancer(balancer) => doubt_of_balancer(balancer),
+        BoxKind::Nat(nat) => doubt_of_nat(&nat.program),
+        BoxKind::Balancer(balancer) => doubt_of_balancer(&balancer.program),
     };
     match doubt {
         Some(doubt) => {
