@@ -40,7 +40,8 @@ promises:
 # Runs a box on a packet, the one of the program's stored run, and checks what it wrote; and runs a box on two threads by a script of single
 # events, and the NAT on packets of two hosts. Shows what was written. Last, the NAT crashes when a host's first packet has left: both its
 # packets are to have left from one port. And two threads of the monitor race, with a crash between their rounds. Another middlebox is judged.
-# At the end the NAT is drilled: a crash behind each packet of the two hosts. And it is handed over between two packets of one host.
+# At the end the NAT is drilled: a crash behind each packet of the two hosts. And it is handed over between two packets of one host. A NAT that
+# looks through VLAN tags has frames with one tag, with two, and with none.
 example: build/ftmb
 	scripts/example build/ftmb build/example $(addprefix crates/ftmb/data/,box capture script)
 	scripts/example_check build/ftmb build/example
@@ -52,6 +53,7 @@ example: build/ftmb
 	scripts/example_other build/ftmb build/example/other
 	scripts/example_drill build/ftmb build/example/drill $(addprefix crates/ftmb_runs/data/,box_nat capture_two_hosts)
 	scripts/example_hand build/ftmb build/example/hand $(addprefix crates/ftmb_runs/data/,box_nat_crash capture_one_host)
+	scripts/example build/ftmb build/example/vlan $(addprefix crates/ftmb_runs/data/,box_vlan_nat capture_vlan_nat script_nat)
 
 # The bytes summed and the packets rewritten in a second; the packets made and run in a second; the moves that a master makes in a
 # second, beside those of the plain player; the frames written and read, the log entries held, the outputs released, the touches that
