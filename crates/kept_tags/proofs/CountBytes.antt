@@ -1,0 +1,43 @@
+-- The counting box writes to bytes that stand in front of the tag.
+use Rattle.std.proofs.Common.{◌≡◌, ℕ, zero, suc, ◌+◌, ◌≤◌, Bool, true, false, if◌then◌else◌, List, [], ◌∷◌, ◌++◌, length}
+use Rattle.std.proofs.Common.{take, drop, ap, sym, subst, ◌∙◌, arith, refl}
+use Rattle.std.specs.Prelude.{nat_lt, ◌%◌, ◌^◌}
+use Rattle.std.specs.Int.{to_be_bytes, w32}
+use Rattle.tagged_frames.specs.Tags.{is_tagged, tag_length}
+use Rattle.tagged_frames.proofs.TagLemmas.{drop_first, tag_within}
+use Rattle.box_program.specs.Count.{numbered}
+use Rattle.kept_tags.specs.Tag.{tag_of}
+use Rattle.kept_tags.proofs.TagBytes.{tag_is_4}
+
+drop_both : (k m : ℕ) (xs : List ℕ) → drop m (drop k xs) ≡ drop (k + m) xs
+drop_both zero m xs = refl
+drop_both (suc k) zero [] = refl
+drop_both (suc k) (suc m) [] = refl
+drop_both (suc k) m (x ∷ xs) = drop_both k m xs
+
+-- what stands behind the number stays, with the first two bytes behind that
+number_leaves : (bytes : List ℕ) (number : ℕ) (short : Bool)
+    → drop 8 (if short then bytes else take 2 bytes ++ to_be_bytes w32 number ++ drop 6 bytes) ≡ drop 8 bytes
+number_leaves bytes number true = refl
+number_leaves [] number false = refl
+number_leaves (a ∷ []) number false = refl
+number_leaves (a ∷ b ∷ bytes) number false = drop_both 4 2 bytes
+
+tag_stays : (frame : List ℕ) (n : ℕ) → 4 ≤ length frame
+    → tag_of (take 4 frame ++ numbered (drop 4 frame) n) ≡ tag_of frame
+tag_stays frame n long =
+    let behind = drop 4 frame in
+    let out = take 4 frame ++ numbered behind n in
+    ap (λ (bytes : List ℕ). take 4 bytes)
+    (sym (drop_both 4 8 out)
+    ∙ ap (λ (bytes : List ℕ). drop 8 bytes) (drop_first 4 frame (numbered behind n) long)
+    ∙ number_leaves behind (n % 2 ^ 32) (nat_lt (length behind) 6)
+    ∙ drop_both 4 8 frame)
+
+pub count_leaves : (frame : List ℕ) (n : ℕ) → is_tagged frame ≡ true
+    → tag_of (take (tag_length true frame) frame ++ numbered (drop (tag_length true frame) frame) n) ≡ tag_of frame
+count_leaves frame n tagged =
+    let four = tag_is_4 frame tagged in
+    let long = subst (λ (k : ℕ). k ≤ length frame) four (tag_within true frame) in
+    subst (λ (k : ℕ). tag_of (take k frame ++ numbered (drop k frame) n) ≡ tag_of frame) (sym four)
+    (tag_stays frame n long)

@@ -1,0 +1,6 @@
+mod FirstBytes
+mod Seeing
+mod BalancerBytes
+mod NatBytes
+mod TagBytes
+mod CountBytes

@@ -1,0 +1,26 @@
+ghost use Rattle.std.specs.Prelude.{◌≡◌, ℕ, true, take};
+ghost use Rattle.plain_text.specs.declared.packet.Packet.{Packet};
+ghost use Rattle.plain_machine.specs.declared.local.Local.{Local};
+ghost use Rattle.tagged_frames.specs.Tags.{is_tagged};
+ghost use Rattle.tagged_box.specs.Tagged.{tagged_meaning};
+ghost use Rattle.box_program.specs.Count.{count_meaning};
+ghost use Rattle.nat_box.specs.declared.nat.NatBox.{NatBox};
+ghost use Rattle.nat_box.specs.Boxes as nat;
+ghost use Rattle.balancer_box.specs.declared.balancer.BalancerBox.{BalancerBox};
+ghost use Rattle.balancer_box.specs.Boxes as balancer;
+ghost use Rattle.monitor_box.specs.declared.monitor.MonitorBox.{MonitorBox};
+ghost use Rattle.monitor_box.specs.Boxes as monitor;
+ghost use Rattle.kept_tags.specs.Tag.{tag_of};
+
+/// The tag of a frame goes out as it came in (IEEE 802.1Q, 9.3): its type and its control information, in the place
+/// where they stood. The NAT, the balancer and the monitor leave the addresses of the frame, too.
+pub fn tags_go_out_as_they_came()
+    ensures nat { (b : NatBox) (p : Packet) (l : Local) → is_tagged p.bytes ≡ true
+        → take 16 ((tagged_meaning true (nat.box_meaning b)).out p l) ≡ take 16 p.bytes }
+    ensures balancer { (b : BalancerBox) (p : Packet) (l : Local) → is_tagged p.bytes ≡ true
+        → take 16 ((tagged_meaning true (balancer.box_meaning b)).out p l) ≡ take 16 p.bytes }
+    ensures monitor { (b : MonitorBox) (p : Packet) (l : Local) → is_tagged p.bytes ≡ true
+        → take 16 ((tagged_meaning true (monitor.box_meaning b)).out p l) ≡ take 16 p.bytes }
+    ensures count { (p : Packet) (l : Local) → is_tagged p.bytes ≡ true
+        → tag_of ((tagged_meaning true count_meaning).out p l) ≡ tag_of p.bytes }
+{}
