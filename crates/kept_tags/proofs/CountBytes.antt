@@ -1,6 +1,7 @@
 -- The counting box writes to bytes that stand in front of the tag.
-use Rattle.std.proofs.Common.{◌≡◌, ℕ, zero, suc, ◌+◌, ◌≤◌, Bool, true, false, if◌then◌else◌, List, [], ◌∷◌, ◌++◌, length}
-use Rattle.std.proofs.Common.{take, drop, ap, sym, subst, ◌∙◌, arith, refl}
+use Rattle.std.proofs.Common.{◌≡◌, ℕ, zero, suc, ◌+◌, ◌≤◌, Bool, true, false, if◌then◌else◌, List, [], ◌∷◌, ◌++◌}
+use Rattle.std.proofs.Common.{length, take, drop, ap, sym, subst, ◌∙◌, arith, refl}
+use Rattle.std.proofs.Math.Seq.{drop-nil}
 use Rattle.std.specs.Prelude.{nat_lt, ◌%◌, ◌^◌}
 use Rattle.std.specs.Int.{to_be_bytes, w32}
 use Rattle.tagged_frames.specs.Tags.{is_tagged, tag_length}
@@ -9,11 +10,12 @@ use Rattle.box_program.specs.Count.{numbered}
 use Rattle.kept_tags.specs.Tag.{tag_of}
 use Rattle.kept_tags.proofs.TagBytes.{tag_is_4}
 
-drop_both : (k m : ℕ) (xs : List ℕ) → drop m (drop k xs) ≡ drop (k + m) xs
-drop_both zero m xs = refl
-drop_both (suc k) zero [] = refl
-drop_both (suc k) (suc m) [] = refl
-drop_both (suc k) m (x ∷ xs) = drop_both k m xs
+drop_both : (k m n : ℕ) (xs : List ℕ) → n ≡ k + m → drop m (drop k xs) ≡ drop n xs
+drop_both zero m n xs is =
+    let e : m ≡ n = omega arith in ap (λ (j : ℕ). drop j xs) e
+drop_both (suc k) m zero xs is = absurd (omega (arith, is))
+drop_both (suc k) m (suc n) [] is = drop-nil m
+drop_both (suc k) m (suc n) (x ∷ xs) is = drop_both k m n xs (omega (arith, is))
 
 -- what stands behind the number stays, with the first two bytes behind that
 number_leaves : (bytes : List ℕ) (number : ℕ) (short : Bool)
@@ -21,7 +23,7 @@ number_leaves : (bytes : List ℕ) (number : ℕ) (short : Bool)
 number_leaves bytes number true = refl
 number_leaves [] number false = refl
 number_leaves (a ∷ []) number false = refl
-number_leaves (a ∷ b ∷ bytes) number false = drop_both 4 2 bytes
+number_leaves (a ∷ b ∷ bytes) number false = drop_both 4 2 6 bytes refl
 
 tag_stays : (frame : List ℕ) (n : ℕ) → 4 ≤ length frame
     → tag_of (take 4 frame ++ numbered (drop 4 frame) n) ≡ tag_of frame
@@ -29,10 +31,10 @@ tag_stays frame n long =
     let behind = drop 4 frame in
     let out = take 4 frame ++ numbered behind n in
     ap (λ (bytes : List ℕ). take 4 bytes)
-    (sym (drop_both 4 8 out)
+    (sym (drop_both 4 8 12 out refl)
     ∙ ap (λ (bytes : List ℕ). drop 8 bytes) (drop_first 4 frame (numbered behind n) long)
     ∙ number_leaves behind (n % 2 ^ 32) (nat_lt (length behind) 6)
-    ∙ drop_both 4 8 frame)
+    ∙ drop_both 4 8 12 frame refl)
 
 pub count_leaves : (frame : List ℕ) (n : ℕ) → is_tagged frame ≡ true
     → tag_of (take (tag_length true frame) frame ++ numbered (drop (tag_length true frame) frame) n) ≡ tag_of frame

@@ -1,5 +1,6 @@
 -- What a rewriting leaves: the bytes in front of each place that it writes to.
-use Rattle.std.proofs.Common.{◌≡◌, ℕ, ◌+◌, ◌/◌, ◌%◌, ◌≤◌, Bool, true, false, if◌then◌else◌, List, set, take, ◌∙◌, arith, refl}
+use Rattle.std.proofs.Common.{◌≡◌, ℕ, ◌+◌, ◌/◌, ◌%◌, ◌≤◌, Bool, true, false, if◌then◌else◌, List, set, take, ◌∙◌, arith}
+use Rattle.std.proofs.Common.{refl}
 use Rattle.std.proofs.lemmas.List.{take-set-le}
 use Rattle.packet_headers.specs.declared.flow.Flow.{Flow}
 use Rattle.packet_headers.specs.Fields.{word_at, long_at, put_word, put_long, header_checksum}

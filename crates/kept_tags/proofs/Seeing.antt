@@ -1,5 +1,5 @@
 -- What is written over a frame that is seen as a flow or as an error of ICMP stands behind its first twelve bytes.
-use Rattle.std.proofs.Common.{◌≡◌, ℕ, ◌≤◌, List, take, Ok, arith, ap, subst}
+use Rattle.std.proofs.Common.{◌≡◌, ℕ, ◌+◌, ◌≤◌, List, take, Ok, arith, subst}
 use Rattle.packet_headers.specs.declared.flow.Flow.{Flow}
 use Rattle.packet_headers.specs.View.{viewed, failures, flow_of}
 use Rattle.packet_headers.specs.Rewriting.{with_source, with_dest}
