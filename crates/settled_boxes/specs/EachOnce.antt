@@ -1,6 +1,7 @@
 -- Each packet of the capture is released exactly once.
-use Rattle.std.specs.Prelude.{◌≡◌, ℕ, ◌+◌, ◌≤◌, ◌<◌, ◌&&◌, cond, nat_eq, List, [], ◌∷◌, Some, slice_get}
+use Rattle.std.specs.Prelude.{◌≡◌, ℕ, ◌+◌, ◌≤◌, ◌<◌, Bool, ◌&&◌, cond, nat_eq, List, [], ◌∷◌, Some, slice_get}
 use Rattle.plain_text.specs.declared.packet.Packet.{Packet}
+use Rattle.tagged_frames.specs.Tags.{behind_tag, with_behind}
 use Rattle.box_program.specs.Count.{numbered}
 use Rattle.recovery_world.specs.World.{Setting, Sent, World, all_inputs}
 use Rattle.recovery_world.specs.Events.{IsAmong}
@@ -32,3 +33,9 @@ IsNumbered p q = (n : ℕ) × (q ≡ record p { bytes = numbered p.bytes n })
 -- the monitor leaves a packet as it is
 abbrev pub IsUnchanged : Packet → Packet → Type 0
 IsUnchanged p q = q ≡ p
+
+-- what is seen of p behind its tag goes out as these bytes, with the bytes that were not seen in front of them
+abbrev pub SentBehind : Bool → (Packet → Packet → Type 0) → Packet → Packet → Type 0
+SentBehind tags SentAs p q =
+    (bytes : List ℕ) × SentAs (behind_tag tags p) (record (behind_tag tags p) { bytes = bytes })
+    × (q ≡ with_behind tags p bytes)
