@@ -16,5 +16,6 @@ pub mod ThreeFiles
 pub mod LiveFiles
 pub mod ChainFiles
 pub mod ChainFaults
+pub mod CheckBoxes
 pub mod ResumeFiles
 pub mod ResumeFaults
