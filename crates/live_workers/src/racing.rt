@@ -99,10 +99,13 @@ fn run_all<
         at_work.fetch_sub(1, Ordering::SeqCst);
         ended
     };
-    Ok(map_vec(rt, workers, &run)?)
+    let ended = map_vec(rt, workers, &run);
+    at_work.store(0, Ordering::SeqCst);
+    Ok(ended?)
 }
 
-/// Runs the workers, and the intake beside them. Where no thread can be started, the intake goes behind them.
+/// Runs the workers, and the intake on a thread alongside them. `join` runs last what it can't start,
+/// so the intake is the first closure: where no thread can be started for it, it runs after the workers.
 fn run_beside<
     P: Program + Send + Sync,
     J: Round + Send + Sync,
@@ -139,8 +142,12 @@ fn run_beside<
     ensures taken { IfOk result (λ r. AreTaken r.1.receivers.items r.1.frames.items) }
 {
     let at_work = AtomicU64::new(workers.len() as u64);
-    let (ended, taken) = thread::join(
+    let (taken, ended) = thread::join(
         rt,
+        || -> Result<Taken, NoMemory>
+            requires { AreEndsOf lanes.now receivers.items
+                × All (λ r. r.items ≡ []) receivers.items }
+        { take_in(rt, rt.alloc(), gate, lanes, &at_work, receivers) },
         || -> Result<Vec<Result<Working<P>, NoMemory>>, NoMemory>
             requires { AreVarsOf P.meaning P.row.coded P.Value.row.coded program.now vars.now
                 × (guide.now ≡ J.guide)
@@ -155,10 +162,6 @@ fn run_beside<
                 workers,
             )
         },
-        || -> Result<Taken, NoMemory>
-            requires { AreEndsOf lanes.now receivers.items
-                × All (λ r. r.items ≡ []) receivers.items }
-        { take_in(rt, rt.alloc(), gate, lanes, &at_work, receivers) },
     );
     let left = part_all(rt.alloc(), ended?)?;
     Ok((left, taken?))

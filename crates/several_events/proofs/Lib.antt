@@ -3,6 +3,7 @@ pub mod MessageLists
 pub mod Choices
 pub mod Following
 pub mod IdleTurns
+pub mod RepeatedArrivals
 pub mod SameSets
 pub mod ToArrive
 pub mod AheadWorlds

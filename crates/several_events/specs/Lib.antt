@@ -1,3 +1,4 @@
 pub mod Choosing
 pub mod Progressing
 pub mod Ahead
+pub mod Repeating

@@ -6,6 +6,7 @@
 mod choosing;
 mod messages;
 mod progress;
+mod repeats;
 mod strategy;
 mod turns;
 

@@ -9,7 +9,7 @@ use plain_text::Kind;
 use system_parts::Core;
 
 /// How many entries or outputs a thread of the master had.
-fn count_of<P: Program>(core: &Core<P>, kind: Kind, thread: u32) -> u64
+pub fn count_of<P: Program>(core: &Core<P>, kind: Kind, thread: u32) -> u64
     requires { thread < core.now.inputs.threads }
     ensures { (s : Setting P.Value) (w : World P.Value)
         → StandsFor (P.meaning core.now.program) s w core.now

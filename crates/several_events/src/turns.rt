@@ -8,6 +8,7 @@ ghost use Rattle.several_events.specs.Progressing.{to_do};
 ghost use Rattle.several_events.specs.Ahead.{GoesOnAs};
 
 use crate::progress::{Progress, next_turn};
+use crate::repeats::pass_repeats;
 use box_program::Program;
 use held_steps::input_of;
 use system_parts::Core;
@@ -50,7 +51,8 @@ fn pass_turns<P: Program>(core: &Core<P>, left: u64, thread: u32, moved: bool) -
     }
 }
 
-/// How far it is behind the turns of threads that have nothing to do, while threads take turns.
+/// How far it is when all that would change nothing is passed over: the turns of threads that have
+/// nothing to do, while threads take turns, and then the messages that arrived before.
 pub fn pass_idle<P: Program>(core: &Core<P>, at: Progress) -> Progress
     requires stands { StandsForSome (P.meaning core.now.program) core.now }
     ensures passes { GoesOnAs (P.meaning core.now.program) core.now at result }
@@ -63,6 +65,11 @@ pub fn pass_idle<P: Program>(core: &Core<P>, at: Progress) -> Progress
             thread,
             moved,
         } => pass_turns(core, left, thread, moved),
+        Progress::Arrives {
+            kind,
+            thread,
+            arrived,
+        } => pass_repeats(core, kind, thread, arrived),
         other => other,
     }
 }

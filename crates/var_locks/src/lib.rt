@@ -8,6 +8,7 @@ mod lines;
 mod opening;
 mod progress;
 mod seats;
+mod spaced;
 mod steps;
 mod touches;
 mod touching;
@@ -16,6 +17,7 @@ mod view;
 
 pub use progress::is_on_variable;
 pub use seats::VarSeat;
+pub use spaced::Slot;
 pub use touching::{Gate, OpenGate, Touched};
 pub use vars::{Closed, Vars};
 pub use view::{

@@ -9,6 +9,7 @@ ghost use Rattle.var_locks.specs.Openings.{fresh_seats};
 
 use crate::lines::push_line;
 use crate::seats::VarSeat;
+use crate::spaced::slots_of;
 use crate::steps::{Lock, Token, open_round, split_off};
 use crate::vars::Vars;
 use crate::view::Round;
@@ -102,7 +103,8 @@ fn begin<P: Program, J: Round>(
         vars: values,
         threads,
     } = parts;
-    let Ok((table, mut token)) = open_round::<P, J>(alloc, program, words, values) else {
+    let slots = slots_of(alloc, values)?;
+    let Ok((table, mut token)) = open_round::<P, J>(alloc, program, words, slots) else {
         return Err(NoMemory);
     };
     let seats = seat_all::<P, J>(alloc, program, &table.shared, &mut token, &threads, places)?;

@@ -16,12 +16,13 @@ ghost use Rattle.var_locks.specs.Rounds.{IsRoundOf, Opens, CanTake, CanNote, Can
 ghost use Rattle.var_locks.specs.Rounds.{CanMiss, CanEnd, CanSplit};
 
 use crate::lines::var_word;
+use crate::spaced::Slot;
 use crate::view::{
     Brought, Ended, Given, Law, Missed, MissedEntry, Named, News, Noted, Parted, Round, Taken, View,
 };
 use atomic_table::{Refused, Seat, Shared, Table};
 use box_program::Program;
-use master_core::{ThreadPart, Trace, VarPart};
+use master_core::{ThreadPart, Trace};
 use plain_text::Packet;
 use std::alloc::Global;
 use std::hint::spin_loop;
@@ -31,14 +32,14 @@ use std::thread;
 
 /// The words and the values of a round, as its seats see them.
 pub(crate) type Lock<P, J> = Shared<
-    VarPart<<P as Program>::Value>,
+    Slot<<P as Program>::Value>,
     View<<P as Program>::Value>,
     (),
     Law<P, J>,
 >;
 
 pub(crate) type LockTable<P, J> = Table<
-    VarPart<<P as Program>::Value>,
+    Slot<<P as Program>::Value>,
     View<<P as Program>::Value>,
     (),
     Law<P, J>,
@@ -46,7 +47,7 @@ pub(crate) type LockTable<P, J> = Table<
 >;
 
 /// What a seat takes its steps with.
-pub(crate) type Token<V> = Seat<VarPart<V>, View<V>>;
+pub(crate) type Token<V> = Seat<Slot<V>, View<V>>;
 
 /// What a move made of its thread: the part before it and after it, and what it did.
 #[derive(Clone, Copy)]
@@ -61,8 +62,8 @@ pub(crate) fn open_round<P: Program, J: Round>(
     alloc: Global,
     program: &P,
     words: &[u64],
-    parts: Vec<VarPart<P::Value>>,
-) -> Result<(LockTable<P, J>, Token<P::Value>), Refused<VarPart<P::Value>, Global>>
+    parts: Vec<Slot<P::Value>>,
+) -> Result<(LockTable<P, J>, Token<P::Value>), Refused<Slot<P::Value>, Global>>
     requires of { P.row.coded.code program.now ≡ J.program }
     requires opens { (p : Mastered P.Value) × Opens (P.meaning program.now) (P.fits program.now)
         P.Value.row.coded J.opening J.threads J.places parts.items words.now p }

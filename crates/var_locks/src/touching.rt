@@ -93,7 +93,8 @@ fn readers_of<P: Program, J: Round>(
     ensures readers { (x : var_of.VarPart P.Value) → token.old.me.1 ≡ (var, x) ∷ []
         → result ≡ x.readers }
 {
-    token.slot_mut(shared, var).readers
+    let slot = token.slot_mut(shared, var);
+    slot.part.readers
 }
 
 /// Touches this variable in place, or reads it.
@@ -146,7 +147,7 @@ fn work<P: Program, J: Round>(
     ensures left { OnErr result ((part.new ≡ part.old) × (token.new.me ≡ token.old.me)) }
 {
     let slot = token.slot_mut(shared, access.var as usize);
-    work_in(alloc, program, part, access, slot)
+    work_in(alloc, program, part, access, &mut slot.part)
 }
 
 /// The entry for which this turn says to wait.

@@ -7,6 +7,7 @@ ghost use Rattle.var_locks.specs.Rounds.{IsRoundOf, AreVarsOf};
 ghost use Rattle.var_locks.specs.Closing.{AreSeats, HasSeats, IsClosed, seat_part, seat_marks};
 
 use crate::seats::VarSeat;
+use crate::spaced::Slot;
 use crate::steps::{Lock, LockTable, Token, join_in};
 use crate::view::Round;
 use atomic_table::Closed as ClosedTable;
@@ -96,7 +97,7 @@ fn gather<P: Program, J: Round>(
 
 /// The values of the slots of a closed table, put into this list, which has room for them.
 fn take_out<V: Drop>(
-    mut closed: ClosedTable<VarPart<V>, Global>,
+    mut closed: ClosedTable<Slot<V>, Global>,
     mut parts: Vec<VarPart<V>>,
 ) -> Vec<VarPart<V>>
     requires full { IsFull closed.slots }
@@ -104,7 +105,7 @@ fn take_out<V: Drop>(
     ensures { result.items ≡ slots_items closed.slots }
 {
     for slot in 0..closed.slot_count() {
-        parts.push_reserved(closed.take(slot));
+        parts.push_reserved(closed.take(slot).into_part());
     }
     closed.free();
     parts

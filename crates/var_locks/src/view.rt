@@ -1,4 +1,5 @@
 //! What a seat of a round knows, the rule, and what the steps tell. Only of `MissedEntry` a value is made.
+use crate::spaced::Slot;
 use atomic_table::{Join, Play, Split, TableRule};
 use box_program::Program;
 use master_core::{ThreadPart, Trace, VarPart};
@@ -91,7 +92,7 @@ pub struct Law<P, J> {
     of: PhantomData<(P, J)>,
 }
 
-impl<P: Program, J: Round> TableRule<VarPart<P::Value>, View<P::Value>, ()> for Law<P, J> {
+impl<P: Program, J: Round> TableRule<Slot<P::Value>, View<P::Value>, ()> for Law<P, J> {
     ghost use Rattle.var_locks.specs.Told.{IsToldOf};
     ghost use Rattle.var_locks.specs.Views.{first_view};
 
@@ -106,7 +107,7 @@ pub struct Taken<P, J> {
     of: PhantomData<(P, J)>,
 }
 
-impl<P: Program, J: Round> Play<VarPart<P::Value>, View<P::Value>> for Taken<P, J> {
+impl<P: Program, J: Round> Play<Slot<P::Value>, View<P::Value>> for Taken<P, J> {
     ghost use Rattle.var_locks.specs.Plays.{Takes};
 
     ghost then = { Takes P.fits P.row.coded J.program };
@@ -130,7 +131,7 @@ pub struct Noted<N> {
     news: PhantomData<N>,
 }
 
-impl<V, N: News> Play<VarPart<V>, View<V>> for Noted<N> {
+impl<V, N: News> Play<Slot<V>, View<V>> for Noted<N> {
     ghost use Rattle.var_locks.specs.Plays.{Notes};
     ghost use Rattle.var_locks.specs.Codes.{note_code};
 
@@ -142,7 +143,7 @@ pub struct Brought<N> {
     news: PhantomData<N>,
 }
 
-impl<V, N: News> Play<VarPart<V>, View<V>> for Brought<N> {
+impl<V, N: News> Play<Slot<V>, View<V>> for Brought<N> {
     ghost use Rattle.var_locks.specs.Plays.{Brings};
     ghost use Rattle.var_locks.specs.Codes.{note_code};
 
@@ -152,7 +153,7 @@ impl<V, N: News> Play<VarPart<V>, View<V>> for Brought<N> {
 /// A seat gives the variable in hand back as it found it.
 pub struct Given;
 
-impl<V> Play<VarPart<V>, View<V>> for Given {
+impl<V> Play<Slot<V>, View<V>> for Given {
     ghost use Rattle.var_locks.specs.Plays.{Gives};
 
     ghost then = { Gives };
@@ -174,7 +175,7 @@ pub struct Missed<N> {
     entry: PhantomData<N>,
 }
 
-impl<V, N: Named> Play<VarPart<V>, View<V>> for Missed<N> {
+impl<V, N: Named> Play<Slot<V>, View<V>> for Missed<N> {
     ghost use Rattle.var_locks.specs.Plays.{Misses};
 
     ghost then = { Misses N.entry };
@@ -183,7 +184,7 @@ impl<V, N: Named> Play<VarPart<V>, View<V>> for Missed<N> {
 /// A seat ends the round for its thread.
 pub struct Ended;
 
-impl<V> Play<VarPart<V>, View<V>> for Ended {
+impl<V> Play<Slot<V>, View<V>> for Ended {
     ghost use Rattle.var_locks.specs.Plays.{Ends};
 
     ghost then = { Ends };

@@ -12,6 +12,6 @@ returns-clause-ended g c =
           (g.C.Clock.may c.args.clock.now) c.args.most c.args.workers.items c.in_ok-ended.field-0.items k.0 k.1
           (subst (λ r. IfOk r (λ ended. AllAnswered (g.P.Program.meaning c.args.program.now) g.J.Round.guide
           (inputs_of c.args.inputs.now) (g.C.Clock.may c.args.clock.now) c.args.most c.args.workers.items ended.items))
-          c.in_ok-ended.was c.join-ended.ensures.first),
+          c.in_ok-ended.was c.join-taken.ensures.second),
       k.2,
     )

@@ -14,15 +14,16 @@ loop-slot-preserved g c =
     let end : c.loop-slot.slot < c.slot_count-slot-end.result = c.loop-slot-test.true in
     let len : c.take.new.self.slots.len ≡ c.loop-slot.closed.slots.len = o.2 in
     let last = inv.3 in
-    let found : get_elem? c.args.closed.slots.items c.loop-slot.slot ≡ logic.some c.take.result =
-    ap (λ (l : List (VarPart g.row.V.Denot)). get_elem? l c.loop-slot.slot) (sym inv.0) ∙ c.take.ensures.value in (
+    let found : get_elem? c.args.closed.slots.items c.loop-slot.slot ≡ logic.some c.into_part.result =
+    ap (λ (l : List (VarPart g.row.V.Denot)). get_elem? l c.loop-slot.slot) (sym inv.0)
+    ∙ (c.take.ensures.value ∙ ap logic.some (sym c.into_part.ensures)) in (
       o.0 ∙ inv.0,
       o.2 ∙ inv.1,
       omega (arith, end, last, len),
       inv.3 ∙ sym o.2,
       c.push_reserved.ensures.items
-          ∙ (ap (λ (l : List (VarPart g.row.V.Denot)). l ++ c.take.result ∷ []) inv.4
-          ∙ sym (take_next c.args.closed.slots.items c.loop-slot.slot c.take.result found)),
+          ∙ (ap (λ (l : List (VarPart g.row.V.Denot)). l ++ c.into_part.result ∷ []) inv.4
+          ∙ sym (take_next c.args.closed.slots.items c.loop-slot.slot c.into_part.result found)),
       (let room = inv.5 in let same = c.push_reserved.ensures.capacity in omega (arith, room, same, len)),
       (λ k low above.
           ap (λ (l : List Bool). slice_index_or l k false) o.1
