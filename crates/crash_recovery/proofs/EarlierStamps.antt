@@ -6,7 +6,7 @@ use Rattle.entry_order.specs.Log.{Entry, entries, IsLog, IsIn}
 use Rattle.entry_order.specs.Stamps.{IsStamp, IsOutputStamp}
 use Rattle.entry_order.proofs.Order.{number_within, entry_there}
 use Rattle.entry_order.proofs.Joins.{output_stamp_is, output_stamp_of, zero_first, first_is_zero}
-use Rattle.line_order.proofs.OneLine.{closed_stamp}
+use Rattle.plain_machine.proofs.OneLine.{closed_stamp}
 use Rattle.plain_machine.specs.Program.{Meaning}
 use Rattle.plain_machine.specs.History.{Step, log_of, IsHistory}
 use Rattle.plain_machine.specs.Agree.{IsEarlier}

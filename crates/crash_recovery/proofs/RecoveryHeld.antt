@@ -6,8 +6,8 @@ use Rattle.entry_order.specs.Stamps.{IsCount}
 use Rattle.entry_order.specs.Closed.{IsClosedPart, IsClosedOver}
 use Rattle.entry_order.proofs.ClosedParts.{in_or}
 use Rattle.entry_order.proofs.KeptEntries.{in_left, in_right, in_either}
-use Rattle.line_order.proofs.OneLine.{closed_stamp}
-use Rattle.line_order.proofs.Arrangements.{next_past}
+use Rattle.plain_machine.proofs.OneLine.{closed_stamp}
+use Rattle.plain_machine.proofs.Arrangements.{next_past}
 use Rattle.access_log.specs.declared.entry.StampedEntry.{StampedEntry}
 use Rattle.access_log.specs.Held.{Lane, lane, entry_at}
 use Rattle.access_log.specs.Members.{IsMember, IsDropped, IsNumberOf}

@@ -8,7 +8,7 @@ use Rattle.plain_text.specs.declared.packet.Packet.{Packet}
 use Rattle.plain_text.specs.declared.kind.Kind.TheVariants.{Log, Out}
 use Rattle.entry_order.specs.Log.{Entry, entries, IsIn}
 use Rattle.entry_order.proofs.Order.{number_within}
-use Rattle.line_order.proofs.QuietMoves.{sends_later}
+use Rattle.plain_machine.proofs.QuietMoves.{sends_later}
 use Rattle.access_log.specs.declared.entry.Output.{Output}
 use Rattle.access_log.specs.Held.{Lane, lane}
 use Rattle.dup_filter.specs.Numbers.{Numbers, WasMarked}

@@ -39,7 +39,7 @@ use Rattle.recovery_world.specs.declared.event.Event.TheVariants as event
 use Rattle.recovery_world.specs.declared.event.Outcome.TheVariants as outcome
 use Rattle.system_parts.specs.Performing.{MovesOn, ComesTo}
 use Rattle.system_parts.proofs.EventChains.{moves_as}
-use Rattle.line_order.proofs.OneLine.{earlier_length}
+use Rattle.plain_machine.proofs.OneLine.{earlier_length}
 use Rattle.crash_recovery.specs.Recovering.{RecoversTo, TurnsLinks, SendsRest, WakesUp}
 use Rattle.crash_recovery.specs.Unreleased.{AreUnreleased}
 use Rattle.crash_recovery.proofs.UnreleasedLemmas.{AreSentAgain, sends_again}

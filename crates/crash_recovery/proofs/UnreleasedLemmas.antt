@@ -17,7 +17,7 @@ use Rattle.plain_machine.proofs.Histories.{earlier_history, earlier_outputs}
 use Rattle.wire_frames.specs.Writing.{CanPutOutput}
 use Rattle.master_core.specs.Mastered.{Mastered}
 use Rattle.master_core.specs.Stepping.{emission_of_output}
-use Rattle.line_order.proofs.QuietMoves.{sends_later}
+use Rattle.plain_machine.proofs.QuietMoves.{sends_later}
 use Rattle.recovery_laws.proofs.SoundParts.{sent_after}
 use Rattle.master_core.specs.declared.parts.Counts.{Counts}
 use Rattle.master_core.specs.declared.parts.ThreadPart.{ThreadPart}

@@ -6,7 +6,7 @@ use Rattle.plain_text.specs.declared.limit.TheConstants.{MOST_MOVES}
 use Rattle.plain_text.specs.declared.packet.Packet.{Packet}
 use Rattle.input_logger.specs.Inputs.{Fed, inputs_of}
 use Rattle.box_program.specs.Hands.{local_in}
-use Rattle.line_order.proofs.Hands.{hand_input}
+use Rattle.plain_machine.proofs.Hands.{hand_input}
 use Rattle.plain_machine.specs.declared.local.Local.{Local}
 use Rattle.plain_machine.specs.Program.{Meaning}
 use Rattle.plain_machine.specs.Machine.{Hand}

@@ -7,7 +7,7 @@ use Rattle.std.proofs.lemmas.Bool.Decides.{nat_tests}
 use Rattle.std.proofs.lemmas.Option.{slice_get_within}
 use Rattle.plain_text.specs.declared.packet.Packet.{Packet}
 use Rattle.input_logger.specs.Inputs.{thread_of}
-use Rattle.line_order.proofs.Hands.{all_taken}
+use Rattle.plain_machine.proofs.Hands.{all_taken}
 use Rattle.plain_machine.specs.History.{Step, outputs, sent_of}
 use Rattle.recovery_world.specs.World.{Setting, Sent as SentOutput, World, inputs_fed}
 use Rattle.recovery_world.specs.Events.{HasNumber, IsAmong, IsOutputOf}

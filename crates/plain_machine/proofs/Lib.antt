@@ -9,3 +9,11 @@ pub mod Continuations
 pub mod Bounds
 pub mod Recoveries
 pub mod Examples
+pub mod Arrangements
+pub mod WeightOrder
+pub mod QuietMoves
+pub mod SortedEntries
+pub mod OneLine
+pub mod SharedSets
+pub mod Runs
+pub mod Hands

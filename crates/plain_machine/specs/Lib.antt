@@ -4,3 +4,5 @@ pub mod History
 pub mod Agree
 pub mod Continue
 pub mod FromPlainText
+pub mod Line
+pub mod FromEntryOrder

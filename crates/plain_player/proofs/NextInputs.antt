@@ -14,7 +14,7 @@ use Rattle.plain_machine.specs.History.{Step, start_thread, thread_after, IsHist
 use Rattle.plain_machine.proofs.Histories.{not_eq}
 use Rattle.box_program.specs.Hands.{local_in, input_for, hand_of, has_hand, IsInputAfter}
 use Rattle.box_program.proofs.HandLemmas.{no_hand}
-use Rattle.line_order.proofs.Hands.{hand_input}
+use Rattle.plain_machine.proofs.Hands.{hand_input}
 use Rattle.plain_player.specs.declared.seat.Seat.{Seat}
 use Rattle.plain_player.specs.Playing.{Playing, Stands, place_in_hand, input_of_seat, next_input}
 

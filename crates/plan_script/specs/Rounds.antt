@@ -5,7 +5,7 @@ use Rattle.plain_text.specs.declared.kind.Kind.TheVariants as kind
 use Rattle.entry_order.specs.Log.{Entry}
 use Rattle.plain_machine.specs.History.{Act, Took, Did, Emitted, Ended, Step, log_of, moves_of}
 use Rattle.plain_machine.specs.Continue.{IsQuiet, IsLed}
-use Rattle.line_order.specs.Line.{IsByWeight}
+use Rattle.plain_machine.specs.Line.{IsByWeight}
 use Rattle.recovery_world.specs.declared.event.Event.{Event}
 use Rattle.recovery_world.specs.declared.event.Event.TheVariants as event
 use Rattle.recovery_world.specs.declared.event.Outcome.TheVariants as outcome

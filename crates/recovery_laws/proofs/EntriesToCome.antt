@@ -12,7 +12,7 @@ use Rattle.entry_order.proofs.Order.{same_number, same_place}
 use Rattle.entry_order.proofs.KeptEntries.{in_left, in_right, in_either, apart}
 use Rattle.entry_order.proofs.ClosedParts.{Or, in_or}
 use Rattle.entry_order.proofs.NoLater.{no_later_trans, later_or}
-use Rattle.recovery_world.proofs.FromLineOrder.{tail_log, next_past}
+use Rattle.recovery_world.proofs.FromPlainMachine.{tail_log, next_past}
 use Rattle.recovery_world.specs.Turns.{IsReadToCome, IsTouchToCome, IsAwaited}
 
 module _ (more past : List Entry) (good : IsLog (more ++ past)) where

@@ -24,14 +24,14 @@ use Rattle.plain_machine.proofs.LoggedEffects.{entry_thread}
 use Rattle.recovery_world.specs.World.{Setting, Sent, World, inputs_fed, all_inputs}
 use Rattle.recovery_world.specs.Events.{Wakes, IsKnown, IsAmong, IsPartOf, Recovers, entries_of_line, ended_now}
 use Rattle.recovery_world.specs.Finish.{IsLine, greatest, GoesOn, AllGoOn, IsFinish}
-use Rattle.recovery_world.specs.FromLineOrder.{IsByWeight, GoesBefore}
+use Rattle.recovery_world.specs.FromPlainMachine.{IsByWeight, GoesBefore}
 use Rattle.plain_machine.specs.Continue.{IsQuiet, GoesQuietly}
-use Rattle.recovery_world.proofs.FromLineOrder.{arranged_log}
-use Rattle.recovery_world.proofs.FromLineOrder.{by_weight_arranged}
-use Rattle.recovery_world.proofs.FromLineOrder.{weight_moves, precedes_moves, sorted}
+use Rattle.recovery_world.proofs.FromPlainMachine.{arranged_log}
+use Rattle.recovery_world.proofs.FromPlainMachine.{by_weight_arranged}
+use Rattle.recovery_world.proofs.FromPlainMachine.{weight_moves, precedes_moves, sorted}
 use Rattle.plain_machine.proofs.Continuations.{stays_quietly}
-use Rattle.recovery_world.proofs.FromLineOrder.{history_more}
-use Rattle.recovery_world.proofs.FromLineOrder.{sends_later, quiet_later, quiet_same_log, comes_again}
+use Rattle.recovery_world.proofs.FromPlainMachine.{history_more}
+use Rattle.recovery_world.proofs.FromPlainMachine.{sends_later, quiet_later, quiet_same_log, comes_again}
 use Rattle.recovery_laws.specs.Sound.{IsKept, Firm, Sound}
 use Rattle.recovery_laws.specs.Ends.{Ends}
 use Rattle.recovery_laws.proofs.LedMoves.{led_log}

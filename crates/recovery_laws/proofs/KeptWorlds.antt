@@ -26,8 +26,8 @@ use Rattle.recovery_world.specs.Strategies.{Strategy, Follows, Ends, Halts, Goes
 use Rattle.recovery_world.specs.Many.{goes_on, OnAny, Single, Several, Stops, SingleStops, SeveralStops}
 use Rattle.recovery_world.specs.Files.{Performs, Rests as NoMore, Goes as Writes}
 use Rattle.recovery_world.specs.Finish.{Reached, Opens, Goes}
-use Rattle.recovery_world.proofs.FromLineOrder.{history_more}
-use Rattle.recovery_world.proofs.FromLineOrder.{next_past}
+use Rattle.recovery_world.proofs.FromPlainMachine.{history_more}
+use Rattle.recovery_world.proofs.FromPlainMachine.{next_past}
 use Rattle.recovery_laws.specs.Sound.{IsKept, times, IsEachOnce, Firm, NoneDue, Sound}
 use Rattle.recovery_laws.proofs.Worlds.{LineOf, line_of, step_sound, fed_later}
 use Rattle.recovery_laws.proofs.Sets.{predecessors, predecessors_closed, outside, outside_in, in_outside, among_either}

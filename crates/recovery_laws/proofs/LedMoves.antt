@@ -23,7 +23,7 @@ use Rattle.plain_machine.proofs.Histories.{earlier_history, did_entry}
 use Rattle.plain_machine.proofs.MoveLemmas.{is_logged, hand_logs, held_kind}
 use Rattle.plain_machine.proofs.Seats.{SameSeat, seat_other, seat_trans}
 use Rattle.plain_machine.specs.Continue.{IsQuiet, GoesQuietly, IsLed}
-use Rattle.recovery_world.proofs.FromLineOrder.{quiet_later, quiet_same_log}
+use Rattle.recovery_world.proofs.FromPlainMachine.{quiet_later, quiet_same_log}
 
 -- the log of a led line
 pub led_log : {V : Type 0} (P : List (Step V)) (more : List Entry) (line : List (Step V)) → IsLed P more line

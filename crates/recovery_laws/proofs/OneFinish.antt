@@ -11,11 +11,11 @@ use Rattle.plain_machine.proofs.LoggedEffects.{entry_thread}
 use Rattle.recovery_world.specs.World.{Setting, Sent, World, all_inputs}
 use Rattle.recovery_world.specs.Events.{Wakes, Recovers, entries_of_line}
 use Rattle.recovery_world.specs.Finish.{IsToCome, IsLine, greatest, GoesOn, AllGoOn, IsFinish}
-use Rattle.recovery_world.specs.FromLineOrder.{IsByWeight}
+use Rattle.recovery_world.specs.FromPlainMachine.{IsByWeight}
 use Rattle.plain_machine.specs.Continue.{IsLed}
-use Rattle.recovery_world.proofs.FromLineOrder.{weight_moves, sorted_once}
-use Rattle.recovery_world.proofs.FromLineOrder.{either_later, led_unique}
-use Rattle.recovery_world.proofs.FromLineOrder.{quiet_later}
+use Rattle.recovery_world.proofs.FromPlainMachine.{weight_moves, sorted_once}
+use Rattle.recovery_world.proofs.FromPlainMachine.{either_later, led_unique}
+use Rattle.recovery_world.proofs.FromPlainMachine.{quiet_later}
 use Rattle.recovery_laws.proofs.LedMoves.{led_log}
 
 module _ {V : Type 0} (s : Setting V) where

@@ -7,8 +7,8 @@ use Rattle.entry_order.specs.Log.{Entry, touches, entries, places, IsLog, IsIn, 
 use Rattle.entry_order.proofs.Order.{newest, next_stands, before_in, places_step, entries_step}
 use Rattle.entry_order.proofs.KeptEntries.{in_left, in_right, in_either}
 use Rattle.entry_order.proofs.ClosedParts.{Or, in_or}
-use Rattle.recovery_world.specs.FromLineOrder.{IsArranged}
-use Rattle.recovery_world.proofs.FromLineOrder.{arranged_log}
+use Rattle.recovery_world.specs.FromPlainMachine.{IsArranged}
+use Rattle.recovery_world.proofs.FromPlainMachine.{arranged_log}
 
 -- a log stands arranged
 pub log_arranged : (more past : List Entry) → IsLog (more ++ past) → IsArranged more

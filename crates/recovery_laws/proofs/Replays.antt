@@ -22,7 +22,7 @@ use Rattle.recovery_world.specs.Turns.{IsReadToCome, IsTouchToCome, IsAwaited, A
 use Rattle.recovery_world.specs.Events.{WantsMore, WaitsFor, MakesMove, OnStep}
 use Rattle.recovery_world.specs.Finish.{IsToCome}
 use Rattle.plain_machine.specs.Continue.{GoesQuietly, IsLed}
-use Rattle.recovery_world.proofs.FromLineOrder.{tail_log}
+use Rattle.recovery_world.proofs.FromPlainMachine.{tail_log}
 use Rattle.recovery_laws.specs.Sound.{Firm}
 use Rattle.recovery_laws.proofs.PlacedEntries.{without, first_log}
 use Rattle.recovery_laws.proofs.LedMoves.{EntryFor, move_entry, no_quiet, step_thread}

@@ -23,8 +23,8 @@ use Rattle.plain_machine.proofs.Histories.{history_log, did_emission, earlier_hi
 use Rattle.plain_machine.proofs.Agreement.{histories_agree, sends_at}
 use Rattle.plain_machine.proofs.LoggedEffects.{entry_thread}
 use Rattle.plain_machine.specs.Continue.{GoesQuietly, IsLed}
-use Rattle.recovery_world.proofs.FromLineOrder.{taken_within, all_taken}
-use Rattle.recovery_world.proofs.FromLineOrder.{quiet_later}
+use Rattle.recovery_world.proofs.FromPlainMachine.{taken_within, all_taken}
+use Rattle.recovery_world.proofs.FromPlainMachine.{quiet_later}
 use Rattle.recovery_world.specs.declared.event.Event.{Event}
 use Rattle.recovery_world.specs.declared.event.Event.TheVariants as event
 use Rattle.recovery_world.specs.declared.event.Outcome.{Outcome}

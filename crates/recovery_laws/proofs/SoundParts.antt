@@ -13,9 +13,9 @@ use Rattle.plain_machine.specs.Agree.{SendsAfter}
 use Rattle.plain_machine.proofs.Histories.{history_log}
 use Rattle.plain_machine.proofs.LoggedEffects.{entry_thread}
 use Rattle.recovery_world.specs.World.{Setting, Sent, World, inputs_fed, all_inputs}
-use Rattle.recovery_world.specs.FromLineOrder.{GoesBefore}
-use Rattle.recovery_world.proofs.FromLineOrder.{not_next}
-use Rattle.recovery_world.proofs.FromLineOrder.{next_past}
+use Rattle.recovery_world.specs.FromPlainMachine.{GoesBefore}
+use Rattle.recovery_world.proofs.FromPlainMachine.{not_next}
+use Rattle.recovery_world.proofs.FromPlainMachine.{next_past}
 use Rattle.recovery_world.specs.declared.event.Outcome.{Outcome}
 use Rattle.recovery_world.specs.Events.{IsKnown, IsAmong, MakesMove, OnStep}
 use Rattle.recovery_world.specs.Finish.{IsToCome, IsLine}

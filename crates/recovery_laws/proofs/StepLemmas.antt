@@ -10,7 +10,7 @@ use Rattle.plain_machine.specs.declared.local.Move.{Move}
 use Rattle.plain_machine.specs.declared.local.Move.TheVariants.{Access, Read, Clock, Draw, Emit, End}
 use Rattle.plain_machine.specs.History.{entry_of}
 use Rattle.recovery_world.specs.Turns.{IsReadToCome, IsTouchToCome, HasTurn}
-use Rattle.recovery_world.proofs.FromLineOrder.{tail_log}
+use Rattle.recovery_world.proofs.FromPlainMachine.{tail_log}
 use Rattle.recovery_laws.proofs.EntriesToCome.{later_number, later_place, touch_next, next_touch, read_or_touch}
 use Rattle.recovery_laws.proofs.EntriesToCome.{next_number, may_touch, may_read}
 use Rattle.recovery_laws.proofs.PlacedEntries.{IsFree}

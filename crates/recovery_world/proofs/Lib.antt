@@ -1,1 +1,1 @@
-pub mod FromLineOrder
+pub mod FromPlainMachine

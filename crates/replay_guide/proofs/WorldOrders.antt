@@ -5,8 +5,8 @@ use Rattle.entry_order.specs.Log.{Entry, IsLog, IsIn}
 use Rattle.entry_order.specs.Stamps.{IsWeight}
 use Rattle.entry_order.proofs.Order.{thread_by_number}
 use Rattle.entry_order.proofs.Weights.{weight_is_sum, weight_falls}
-use Rattle.recovery_laws.specs.FromLineOrder.{GoesBefore, IsByWeight}
-use Rattle.recovery_laws.proofs.FromLineOrder.{weight_one}
+use Rattle.recovery_laws.specs.FromPlainMachine.{GoesBefore, IsByWeight}
+use Rattle.recovery_laws.proofs.FromPlainMachine.{weight_one}
 use Rattle.access_log.specs.declared.entry.StampedEntry.{StampedEntry}
 use Rattle.access_log.specs.Held.{Lane, lane, entry_at}
 use Rattle.master_core.specs.Holding.{and_found, held_entries, HoldsOf}

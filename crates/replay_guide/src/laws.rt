@@ -6,7 +6,7 @@ ghost use Rattle.entry_order.specs.Closed.{IsClosedOver};
 ghost use Rattle.plain_machine.specs.declared.local.Move.TheVariants as move;
 ghost use Rattle.plain_machine.specs.Machine.{Hand};
 ghost use Rattle.plain_machine.specs.History.{log_of, thread_after};
-ghost use Rattle.recovery_laws.specs.FromLineOrder.{IsByWeight};
+ghost use Rattle.recovery_laws.specs.FromPlainMachine.{IsByWeight};
 ghost use Rattle.access_log.specs.Held.{Lane, lane, entry_at};
 ghost use Rattle.master_core.specs.Holding.{held_entries, HoldsOf};
 ghost use Rattle.master_core.specs.Stamped.{IsReadersStamp};

@@ -5,7 +5,7 @@ use Rattle.plain_text.specs.Packets.{IsShort}
 use Rattle.plain_text.specs.declared.packet.Packet.{Packet}
 use Rattle.access_log.specs.declared.entry.Output.{Output}
 use Rattle.box_program.specs.Hands.{input_for}
-use Rattle.line_order.proofs.Hands.{held_sends}
+use Rattle.plain_machine.proofs.Hands.{held_sends}
 use Rattle.plain_machine.specs.declared.emission.Emission.{Emission}
 use Rattle.plain_machine.specs.Program.{Meaning, IsLawful}
 use Rattle.plain_machine.specs.Machine.{Hand, Effect, Takes, Touches, Looks, HearsClock, HearsDraw, Sends, Ends}

@@ -7,8 +7,8 @@ use Rattle.entry_order.specs.Log.{Entry}
 use Rattle.entry_order.specs.Stamps.{IsStamp}
 use Rattle.access_log.specs.Held.{Lane}
 use Rattle.box_program.specs.Hands.{local_in}
-use Rattle.line_order.specs.Line.{LastTaken}
-use Rattle.line_order.proofs.Hands.{hand_input}
+use Rattle.plain_machine.specs.Line.{LastTaken}
+use Rattle.plain_machine.proofs.Hands.{hand_input}
 use Rattle.plain_machine.specs.declared.local.Local.{Local}
 use Rattle.plain_machine.specs.declared.plain_move.PlainMove.{PlainMove}
 use Rattle.plain_machine.specs.Program.{Meaning}

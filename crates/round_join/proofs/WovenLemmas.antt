@@ -5,7 +5,7 @@ use Rattle.plain_machine.specs.declared.plain_move.PlainMove.{PlainMove}
 use Rattle.plain_machine.specs.Program.{Meaning}
 use Rattle.plain_machine.specs.History.{Act, Took, Did, Emitted, Ended, Step, log_of, play}
 use Rattle.plain_machine.specs.Continue.{IsQuiet, IsLed}
-use Rattle.line_order.specs.Line.{IsByWeight}
+use Rattle.plain_machine.specs.Line.{IsByWeight}
 use Rattle.plan_script.specs.Rounds.{AreWoven, NoneIsLater, AreByThread}
 use Rattle.round_order.specs.Receipts.{Receipt, Receipts, Among, after, entries_in, IsUnlogged}
 use Rattle.round_order.specs.Linked.{IsLinked}

@@ -12,7 +12,7 @@ use Rattle.plain_machine.specs.History.{Act, Took, Did, Emitted, Ended, Step, lo
 use Rattle.plain_machine.specs.Continue.{IsQuiet, GoesQuietly, IsLed}
 use Rattle.plain_machine.proofs.Histories.{history_log}
 use Rattle.plain_machine.proofs.Continuations.{stays_quietly}
-use Rattle.line_order.specs.Line as line
+use Rattle.plain_machine.specs.Line as line
 use Rattle.plain_machine.proofs.LoggedEffects.{entry_thread}
 use Rattle.round_order.specs.Receipts.{Receipt, Receipts, Among, after, entries_in, IsLogged, IsUnlogged, weight}
 use Rattle.round_order.specs.Linked.{IsLinked}

@@ -9,7 +9,7 @@ use Rattle.plain_machine.specs.declared.plain_move.PlainMove.{PlainMove}
 use Rattle.plain_machine.specs.Program.{Meaning}
 use Rattle.plain_machine.specs.History.{Step, log_of, play}
 use Rattle.plain_machine.specs.Continue.{IsLed}
-use Rattle.line_order.specs.Line as line
+use Rattle.plain_machine.specs.Line as line
 use Rattle.round_order.specs.Receipts.{Receipt, Receipts, Among, own, after, moves_in, entries_in, IsLogged, IsUnlogged}
 use Rattle.round_order.specs.Receipts.{weight}
 use Rattle.round_order.specs.Linked.{IsLinked}

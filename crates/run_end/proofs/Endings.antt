@@ -8,9 +8,9 @@ use Rattle.input_logger.specs.Inputs.{Fed, inputs_of}
 use Rattle.entry_order.specs.Log.{Entry, IsIn}
 use Rattle.entry_order.proofs.ClosedParts.{Or, in_or}
 use Rattle.entry_order.proofs.KeptEntries.{in_left, in_right, in_either}
-use Rattle.line_order.specs.Line.{IsByWeight, GoesBefore}
-use Rattle.line_order.proofs.Runs.{history_more}
-use Rattle.line_order.proofs.SortedEntries.{sorted_once}
+use Rattle.plain_machine.specs.Line.{IsByWeight, GoesBefore}
+use Rattle.plain_machine.proofs.Runs.{history_more}
+use Rattle.plain_machine.proofs.SortedEntries.{sorted_once}
 use Rattle.plain_machine.specs.declared.plain_move.PlainMove.{PlainMove}
 use Rattle.plain_machine.specs.Program.{Meaning}
 use Rattle.plain_machine.specs.History.{Step, log_of, IsHistory}

@@ -11,7 +11,7 @@ use Rattle.plain_machine.specs.Machine.{Hand}
 use Rattle.plain_machine.specs.History.{Step, thread_after, IsHistory}
 use Rattle.box_program.specs.Hands.{local_in, input_for, hand_of, has_hand, IsInputAfter}
 use Rattle.box_program.proofs.HandLemmas.{no_hand}
-use Rattle.line_order.proofs.Hands.{hand_input}
+use Rattle.plain_machine.proofs.Hands.{hand_input}
 use Rattle.master_core.specs.declared.parts.ThreadPart.{ThreadPart}
 use Rattle.master_core.specs.declared.parts.Counts.{Counts}
 use Rattle.master_core.specs.Mastered.{Mastered, input_in_hand, place_in_hand, HasRoom}

@@ -7,7 +7,7 @@ use Rattle.plain_machine.specs.Program.{Meaning, IsLawful}
 use Rattle.plain_machine.specs.History.{Step, moves_of, IsHistory}
 use Rattle.plain_machine.proofs.Histories.{moves_step}
 use Rattle.plain_machine.proofs.Bounds.{few_moves}
-use Rattle.line_order.proofs.Hands.{taken_within}
+use Rattle.plain_machine.proofs.Hands.{taken_within}
 use Rattle.master_core.specs.Mastered.{Mastered, moves_made as part_moves, HasRoom}
 use Rattle.master_core.specs.MasterStanding.{Stands}
 use Rattle.run_end.proofs.InputLemmas.{none_part}

@@ -12,7 +12,7 @@ use Rattle.plain_machine.specs.Agree.{IsEarlier}
 use Rattle.plain_machine.specs.Continue.{IsQuiet, GoesQuietly, IsLed}
 use Rattle.plain_machine.proofs.Histories.{history_log, earlier_refl, earlier_trans, earlier_history, did_entry}
 use Rattle.plain_machine.proofs.LoggedEffects.{entry_thread}
-use Rattle.line_order.proofs.QuietMoves.{quiet_later, quiet_same_log}
+use Rattle.plain_machine.proofs.QuietMoves.{quiet_later, quiet_same_log}
 use Rattle.master_core.specs.Mastered.{Mastered}
 use Rattle.recovery_world.specs.World.{Sent}
 use Rattle.recovery_world.specs.Files.{answer_of_entry}

@@ -12,7 +12,7 @@ use Rattle.plain_machine.specs.History.{IsHistory}
 use Rattle.plain_machine.specs.Agree.{SendsAfter}
 use Rattle.plain_machine.proofs.Histories.{earlier_history}
 use Rattle.plain_machine.proofs.Agreement.{sends_at}
-use Rattle.line_order.proofs.Hands.{hand_input, held_sends}
+use Rattle.plain_machine.proofs.Hands.{hand_input, held_sends}
 use Rattle.recovery_world.specs.World.{Setting, Sent, World as SystemWorld, inputs_fed}
 use Rattle.recovery_world.specs.Events.{IsAmong}
 use Rattle.recovery_world.specs.Files.{packets_of}

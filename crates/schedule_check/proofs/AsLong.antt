@@ -15,7 +15,7 @@ use Rattle.plain_machine.specs.Machine.{held_move}
 use Rattle.plain_machine.specs.History.{Step, sent_more, sent_of, emissions, thread_after, value_after, act_of, play}
 use Rattle.plain_machine.specs.History.{IsHistory}
 use Rattle.plain_machine.proofs.PlayedLists.{play_history}
-use Rattle.line_order.proofs.Hands.{hand_input, held_sends}
+use Rattle.plain_machine.proofs.Hands.{hand_input, held_sends}
 use Rattle.plain_player.specs.declared.whole.Played.{Played}
 use Rattle.plain_player.specs.Played.{IsPlayed}
 use Rattle.schedule_check.specs.Checking.{packets_of}

@@ -17,7 +17,7 @@ use Rattle.plain_machine.specs.History.{value_after, IsHistory}
 use Rattle.plain_machine.specs.Agree.{SendsAfter}
 use Rattle.plain_machine.proofs.Histories.{is_eq, not_eq, earlier_history}
 use Rattle.plain_machine.proofs.Agreement.{sends_at}
-use Rattle.line_order.proofs.Hands.{hand_input}
+use Rattle.plain_machine.proofs.Hands.{hand_input}
 
 -- A program that is told nothing and reads nothing, and sends each packet out once. Went says where the packet went
 -- out.

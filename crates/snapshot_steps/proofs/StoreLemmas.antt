@@ -56,7 +56,7 @@ use Rattle.output_releases.proofs.FromSystemParts.{marks_stay}
 use Rattle.output_releases.proofs.OutputLists.{parts_world, names_as, names_more, noted_more, releases_as}
 use Rattle.output_releases.proofs.Answering.{AnswersTo}
 use Rattle.snapshot_store.specs.Stored.{Snapshot, Snapshots}
-use Rattle.line_order.proofs.OneLine.{earlier_length}
+use Rattle.plain_machine.proofs.OneLine.{earlier_length}
 
 -- How many entries there are in all
 

@@ -10,7 +10,7 @@ use Rattle.entry_order.specs.declared.what.What.{What}
 use Rattle.entry_order.specs.Log.{Entry, IsIn}
 use Rattle.entry_order.proofs.Order.{is_or}
 use Rattle.entry_order.proofs.KeptEntries.{in_left, in_right, in_either}
-use Rattle.line_order.specs.Line.{GoesBefore, IsByWeight}
+use Rattle.plain_machine.specs.Line.{GoesBefore, IsByWeight}
 use Rattle.access_log.specs.declared.entry.StampedEntry.{StampedEntry}
 use Rattle.access_log.specs.Held.{Lane, lane, entry_at}
 use Rattle.dup_filter.specs.Numbers.{Numbers, numbers, IsMarked, IsGreatest}

@@ -29,8 +29,8 @@ use Rattle.plain_machine.proofs.Agreement.{histories_agree}
 use Rattle.plain_machine.proofs.Bounds.{few_moves}
 use Rattle.plain_machine.proofs.Histories.{did_emission, did_entry, moves_step, history_log}
 use Rattle.plain_machine.proofs.LoggedEffects.{entry_thread}
-use Rattle.line_order.proofs.Arrangements.{tail_log}
-use Rattle.line_order.proofs.Hands.{taken_within}
+use Rattle.plain_machine.proofs.Arrangements.{tail_log}
+use Rattle.plain_machine.proofs.Hands.{taken_within}
 use Rattle.recovery_world.specs.World.{Setting, Sent, World, inputs_fed}
 use Rattle.recovery_world.specs.Events.{IsAmong, Parts as Parted}
 use Rattle.recovery_world.specs.Files.{sent_names}

@@ -5,8 +5,8 @@ use Rattle.entry_order.specs.Log.{Entry, IsLog, IsIn, IsClosed, Keeps}
 use Rattle.entry_order.specs.Closed.{IsFrontier}
 use Rattle.entry_order.specs.Stamps.{IsStamp}
 use Rattle.entry_order.proofs.KeptEntries.{in_left, in_right, in_either}
-use Rattle.recovery_world.proofs.FromLineOrder.{closed_stamp}
-use Rattle.recovery_world.proofs.FromLineOrder.{next_past}
+use Rattle.recovery_world.proofs.FromPlainMachine.{closed_stamp}
+use Rattle.recovery_world.proofs.FromPlainMachine.{next_past}
 use Rattle.access_log.specs.Held.{Lane, lane, IsKnown as IsKnownLane}
 use Rattle.plain_machine.specs.History.{Step, log_of}
 use Rattle.plain_machine.specs.Agree.{IsEarlier}

@@ -23,7 +23,7 @@ use Rattle.plain_machine.specs.History.{value_after, IsHistory}
 use Rattle.plain_machine.proofs.Histories.{did_entry, did_emission}
 use Rattle.plain_machine.proofs.LoggedEffects.{entry_thread}
 use Rattle.box_program.specs.Hands.{local_in, input_for, hand_of, IsInputAfter}
-use Rattle.line_order.proofs.Hands.{hand_input}
+use Rattle.plain_machine.proofs.Hands.{hand_input}
 use Rattle.master_core.specs.declared.parts.ThreadPart.{ThreadPart}
 use Rattle.master_core.specs.Mastered.{Mastered, place_in_hand, HasRoom}
 use Rattle.master_core.specs.MasterStanding.{Stands}

@@ -10,7 +10,7 @@ use Rattle.entry_order.proofs.Order.{is_or, next_stands, number_within, place_wi
 use Rattle.entry_order.proofs.Order.{touch_there, same_number, same_place}
 use Rattle.entry_order.proofs.KeptEntries.{in_left, in_right, in_either, before_past, apart, kept, kept_in, in_kept}
 use Rattle.entry_order.proofs.KeptEntries.{kept_log}
-use Rattle.line_order.specs.Line.{IsArranged}
+use Rattle.plain_machine.specs.Line.{IsArranged}
 
 -- what stands behind is a log
 pub tail_log : (later past : List Entry) → IsLog (later ++ past) → IsLog past

@@ -5,7 +5,7 @@ use Rattle.entry_order.specs.Stamps.{IsWeight, sum_below}
 use Rattle.entry_order.proofs.Order.{same_number}
 use Rattle.entry_order.proofs.Weights.{count_unique, weight_is_sum}
 use Rattle.entry_order.proofs.Joins.{stamp_there}
-use Rattle.line_order.proofs.OneLine.{closed_or, closed_stamp}
+use Rattle.plain_machine.proofs.OneLine.{closed_or, closed_stamp}
 
 pub closed_weight : (threads : ℕ) (a b set : List Entry) (e : Entry) (n : ℕ) → IsLog a → IsLog b
     → ((f : Entry) → IsIn f a → f.thread < threads) → ((f : Entry) → IsIn f b → f.thread < threads) → IsClosed a set

@@ -1,7 +1,7 @@
-use Rattle.line_order.proofs.Runs.{history_more}
+use Rattle.plain_machine.proofs.Runs.{history_more}
 use Rattle.plain_machine.proofs.LoggedEffects.{entry_thread}
-use Rattle.line_order.proofs.Hands.{hand_input, taken_within}
-use Rattle.line_order.proofs.runs_are_kept.Goals as goal
+use Rattle.plain_machine.proofs.Hands.{hand_input, taken_within}
+use Rattle.plain_machine.proofs.line_laws.runs_are_kept.Goals as goal
 
 pub returns-clause-more_inputs : goal.returns-clause-more_inputs
 returns-clause-more_inputs g c = history_more

@@ -13,7 +13,7 @@ use Rattle.plain_machine.specs.Machine.{Hand, Thread, Effect, Sends, Moves, hold
 use Rattle.plain_machine.specs.Machine.{held_move}
 use Rattle.plain_machine.specs.History.{Step, thread_after, value_after, IsHistory}
 use Rattle.plain_machine.proofs.Histories.{is_eq, not_eq}
-use Rattle.line_order.specs.Line.{LastTaken}
+use Rattle.plain_machine.specs.Line.{LastTaken}
 
 -- a move with a packet in hand keeps it, or ends it
 hand_keeps : {V : Type 0} (m : Meaning V) (value : ℕ → V) (taken : ℕ) (h : Hand) (a : Option ℕ) (w : Move)

@@ -4,7 +4,7 @@ use Rattle.std.specs.Prelude.{slice_get}
 use Rattle.plain_machine.specs.FromPlainText.{Packet}
 use Rattle.plain_machine.specs.Program.{Meaning}
 use Rattle.plain_machine.specs.History.{Step, IsHistory}
-use Rattle.line_order.proofs.QuietMoves.{more_inputs}
+use Rattle.plain_machine.proofs.QuietMoves.{more_inputs}
 
 -- a history stays one where the threads have more inputs
 pub history_more : {V : Type 0} (m : Meaning V) (inputs more : ℕ → List Packet) (threads : ℕ)

@@ -1,7 +1,7 @@
-use Rattle.line_order.proofs.SortedEntries.{weight_moves}
-use Rattle.line_order.proofs.OneLine.{closed_precedes, closed_stamp}
-use Rattle.line_order.proofs.SharedSets.{closed_weight, closed_output}
-use Rattle.line_order.proofs.logs_agree_on_closed_sets.Goals as goal
+use Rattle.plain_machine.proofs.SortedEntries.{weight_moves}
+use Rattle.plain_machine.proofs.OneLine.{closed_precedes, closed_stamp}
+use Rattle.plain_machine.proofs.SharedSets.{closed_weight, closed_output}
+use Rattle.plain_machine.proofs.line_laws.logs_agree_on_closed_sets.Goals as goal
 
 pub returns-clause-precedes : goal.returns-clause-precedes
 returns-clause-precedes c = closed_precedes

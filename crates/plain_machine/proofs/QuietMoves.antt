@@ -19,7 +19,7 @@ use Rattle.plain_machine.proofs.MoveLemmas.{is_logged, held_again}
 use Rattle.plain_machine.proofs.Seats.{SameSeat, same_step, seat_next, seat_other, seat_trans}
 use Rattle.plain_machine.proofs.Agreement.{AllIn, agreed_all, sends_at}
 use Rattle.plain_machine.proofs.LoggedEffects.{logged_makes, quiet_log, logged_or, off_variables}
-use Rattle.line_order.specs.Line.{SendsNext}
+use Rattle.plain_machine.specs.Line.{SendsNext}
 use Rattle.plain_machine.specs.Continue.{IsQuiet, GoesQuietly}
 use Rattle.plain_machine.proofs.Continuations.{effect_quiet, stays_quietly}
 

@@ -14,7 +14,7 @@ use Rattle.plain_machine.proofs.MoveLemmas.{is_logged, hand_logs, held_kind}
 use Rattle.plain_machine.proofs.LoggedEffects.{makes_logged}
 use Rattle.plain_machine.proofs.Seats.{SameSeat, same_step}
 use Rattle.plain_machine.specs.Continue.{IsQuiet, GoesQuietly, IsLed}
-use Rattle.line_order.proofs.QuietMoves.{quiet_later}
+use Rattle.plain_machine.proofs.QuietMoves.{quiet_later}
 
 -- A closed set
 

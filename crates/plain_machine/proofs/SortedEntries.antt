@@ -7,8 +7,8 @@ use Rattle.entry_order.specs.Stamps.{IsStamp, IsWeight, sum_below}
 use Rattle.entry_order.proofs.Joins.{stamp_there}
 use Rattle.entry_order.proofs.Positions.{thread_in_order}
 use Rattle.entry_order.proofs.Weights.{count_unique, weight_is_sum, weight_falls}
-use Rattle.line_order.specs.Line.{GoesBefore, IsByWeight}
-use Rattle.line_order.proofs.WeightOrder.{weight_there, not_itself}
+use Rattle.plain_machine.specs.Line.{GoesBefore, IsByWeight}
+use Rattle.plain_machine.proofs.WeightOrder.{weight_there, not_itself}
 
 -- one weight each
 pub weight_one : (log : List Entry) (e : Entry) (n k : ℕ) → IsWeight log e n → IsWeight log e k → n ≡ k

@@ -1,2 +1,0 @@
--- Definitions of the crate line_order that crates above this one name, passed on.
-pub use Rattle.recovery_world.specs.FromLineOrder.{GoesBefore, IsByWeight}

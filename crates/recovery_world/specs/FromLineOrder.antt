@@ -1,2 +1,0 @@
--- Definitions of the crate line_order that crates above this one name, passed on.
-pub use Rattle.line_order.specs.Line.{GoesBefore, IsArranged, IsByWeight}
