@@ -17,8 +17,8 @@ use Rattle.master_core.specs.declared.parts.ThreadPart.{ThreadPart}
 use Rattle.master_core.specs.Mastered.{Mastered}
 use Rattle.output_logger.specs.Logger.{IsAmong}
 use Rattle.output_logger.proofs.OutputLists.{among_left, among_last, among_either}
-use Rattle.sent_frames.specs.Sending.{Sending, lengths_of, output_address, HasOutputFrame, SendsAgain, BeginsEpoch}
-use Rattle.sent_frames.specs.Sending.{TurnsBack}
+use Rattle.link_store.specs.Sending.{Sending, lengths_of, output_address, HasOutputFrame, SendsAgain, BeginsEpoch}
+use Rattle.link_store.specs.Sending.{TurnsBack}
 use Rattle.crash_recovery.specs.Recovering.{TurnsLinks, SendsRest}
 use Rattle.system_parts.proofs.SentLemmas.{output_frame_stays}
 

@@ -32,8 +32,8 @@ use Rattle.recovery_laws.proofs.SoundParts.{sent_after}
 use Rattle.recovery_laws.proofs.Settlings.{number_high}
 use Rattle.recovery_laws.proofs.Finishes.{sends_thread}
 use Rattle.recovery_laws.proofs.OneOutcome.{output_one}
-use Rattle.sent_frames.specs.Sending.{Sending, lengths_of, length_at, entry_size, output_size, entry_address}
-use Rattle.sent_frames.specs.Sending.{output_address, HasOutputFrame}
+use Rattle.link_store.specs.Sending.{Sending, lengths_of, length_at, entry_size, output_size, entry_address}
+use Rattle.link_store.specs.Sending.{output_address, HasOutputFrame}
 use Rattle.system_parts.specs.SystemStanding.{IsSentEntry, IsSentOutput, HasSent, IsSnapshot}
 use Rattle.crash_recovery.proofs.EarlierStamps.{stamp_back, output_back, few_entries}
 use Rattle.crash_recovery.proofs.UnreleasedLemmas.{IsKeptOutput, AreSentAgain}

@@ -32,7 +32,7 @@ use Rattle.recovery_laws.specs.Sound.{Sound}
 use Rattle.recovery_laws.proofs.KeptWorlds.{recovers_sound}
 use Rattle.recovery_laws.proofs.Finishes.{recovers_there}
 use Rattle.recovery_laws.proofs.AcceptedRuns.{made_length}
-use Rattle.sent_frames.specs.Sending.{Sending}
+use Rattle.link_store.specs.Sending.{Sending}
 use Rattle.system_parts.specs.Parts.{Parts}
 use Rattle.system_parts.specs.SystemStanding.{AreCounts, AreOutputs, HasEnded, HasLogger, StandsFor, StandsForSome}
 use Rattle.recovery_world.specs.declared.event.Event.TheVariants as event

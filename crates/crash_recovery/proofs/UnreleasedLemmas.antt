@@ -25,7 +25,7 @@ use Rattle.recovery_world.specs.World.{Setting, Sent, World, inputs_fed}
 use Rattle.recovery_world.specs.Events.{HasNumber}
 use Rattle.recovery_laws.proofs.Settlings.{number_high}
 use Rattle.link_store.specs.Links.{frame_at}
-use Rattle.sent_frames.specs.Sending.{Sending, length_at, output_size, output_address, HasOutputFrame}
+use Rattle.link_store.specs.Sending.{Sending, length_at, output_size, output_address, HasOutputFrame}
 use Rattle.system_parts.specs.Parts.{Parts}
 use Rattle.system_parts.specs.SystemStanding.{IsSentOutput, StandsFor, StandsForSome}
 use Rattle.crash_recovery.specs.Unreleased.{IsUnreleased, Lists, HasFrameOf, HasRest, AddsUnreleased, AreUnreleased}

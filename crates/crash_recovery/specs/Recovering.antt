@@ -13,7 +13,7 @@ use Rattle.output_logger.specs.Logger.{IsAmong}
 use Rattle.plain_machine.specs.History.{log_of}
 use Rattle.recovery_world.specs.World.{Setting, World}
 use Rattle.recovery_world.specs.Events.{Recovers, Wakes}
-use Rattle.sent_frames.specs.Sending.{Sending, lengths_of, HasOutputFrame}
+use Rattle.link_store.specs.Sending.{Sending, lengths_of, HasOutputFrame}
 
 -- The new master follows this number of entries that are not stored, and this number of held ones were dropped.
 pub record RecoversTo {V : Type 0} (kept : Kept) (s : Setting V) (w next : World V) : Type 0 where

@@ -3,7 +3,7 @@ use Rattle.std.specs.Prelude.{◌≡◌, ℕ, ◌≤◌, ◌<◌, ◌⊎◌, Lis
 use Rattle.access_log.specs.declared.entry.Output.{Output}
 use Rattle.dup_filter.specs.Numbers.{Numbers, WasMarked}
 use Rattle.output_logger.specs.Logger.{IsAmong}
-use Rattle.sent_frames.specs.Sending.{Sending, HasOutputFrame}
+use Rattle.link_store.specs.Sending.{Sending, HasOutputFrame}
 
 -- an output of the thread, of these first ones, that was not released: the one whose frame is on the links
 pub record IsUnreleased (sent : Sending) (released : List Numbers) (t most : ℕ) (x : Output) : Type 0 where

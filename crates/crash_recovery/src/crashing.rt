@@ -18,7 +18,7 @@ use dup_filter::Released;
 use master_core::{Counts, Master};
 use plain_text::{NoMemory, Sequence};
 use recovery_world::Outcome;
-use sent_frames::SentFrames;
+use link_store::SentFrames;
 use std::alloc::Global;
 use system_parts::{Core, Guide};
 

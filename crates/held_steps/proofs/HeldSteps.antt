@@ -17,7 +17,7 @@ use Rattle.recovery_world.specs.World.{Setting, World}
 use Rattle.recovery_world.specs.Events.{entry_outcome}
 use Rattle.event_replies.specs.declared.reply.Stop.{Stop}
 use Rattle.event_replies.specs.declared.reply.Stop.TheVariants as stop
-use Rattle.sent_frames.specs.Sending.{Sending, SendsEntry}
+use Rattle.link_store.specs.Sending.{Sending, SendsEntry}
 use Rattle.system_parts.specs.Parts.{Parts}
 use Rattle.system_parts.specs.SystemStanding.{StandsFor}
 use Rattle.system_parts.specs.Performing.{MovesOn, StopsAt, ComesTo, Releasing, WouldPass}

@@ -17,8 +17,8 @@ use Rattle.output_logger.proofs.KeptLemmas.{more_with_entry}
 use Rattle.link_store.specs.declared.address.Address.{Address}
 use Rattle.link_store.specs.Links.{address, frame_at, IsUpTo}
 use Rattle.link_store.proofs.RunLemmas.{at_head, past_head}
-use Rattle.sent_frames.specs.Sending.{Sending, one_longer, entry_size, entry_address, SendsEntry, CountsEntry}
-use Rattle.sent_frames.specs.Sending.{ForgetsEntries}
+use Rattle.link_store.specs.Sending.{Sending, one_longer, entry_size, entry_address, SendsEntry, CountsEntry}
+use Rattle.link_store.specs.Sending.{ForgetsEntries}
 use Rattle.system_parts.specs.Parts.{Parts}
 use Rattle.held_steps.specs.Holding.{IsNextHeld, HoldsMade}
 

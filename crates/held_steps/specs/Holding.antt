@@ -14,7 +14,7 @@ use Rattle.recovery_world.specs.Events.{entry_outcome}
 use Rattle.event_replies.specs.declared.reply.Stop.{Stop}
 use Rattle.event_replies.specs.declared.reply.Stop.TheVariants as stop
 use Rattle.early_arrivals.specs.Early.{MayArrive}
-use Rattle.sent_frames.specs.Sending.{Sending, CountsEntry, ForgetsEntries}
+use Rattle.link_store.specs.Sending.{Sending, CountsEntry, ForgetsEntries}
 use Rattle.system_parts.specs.Parts.{Parts}
 use Rattle.system_parts.specs.Performing.{ComesTo}
 use Rattle.thread_steps.specs.Stepping.{Notes, NotesMove}

@@ -12,8 +12,8 @@ use Rattle.wire_frames.specs.Places.{subject_at, stamp_at, packet_at}
 use Rattle.wire_frames.specs.Writing.{CanPutEntry, CanPutOutput}
 use Rattle.wire_frames.proofs.Facts.{version_of_facts}
 use Rattle.wire_frames.proofs.Told.{log_value, log_facts, out_value, out_facts}
-use Rattle.sent_frames.specs.Sending.{entry_size, output_size}
-use Rattle.sent_frames.specs.Spelled.{IsEntryFrame, IsOutputFrame}
+use Rattle.link_store.specs.Sending.{entry_size, output_size}
+use Rattle.link_store.specs.Spelled.{IsEntryFrame, IsOutputFrame}
 use Rattle.kept_moves.specs.Keeping.{entry_in, output_in}
 
 stamp_of : Frame → List ℕ

@@ -9,7 +9,7 @@ use Rattle.master_core.specs.declared.step.Stepped.TheVariants as stepped
 use Rattle.wire_frames.specs.declared.frame.Frame.{Frame}
 use Rattle.wire_frames.specs.declared.frame.Frame.TheVariants as frame_of
 use Rattle.wire_frames.specs.Places.{subject_at, stamp_at, packet_at, version_at}
-use Rattle.sent_frames.specs.Spelled.{IsEntryFrame, IsOutputFrame}
+use Rattle.link_store.specs.Spelled.{IsEntryFrame, IsOutputFrame}
 use Rattle.kept_moves.specs.declared.form.Form.{Form}
 use Rattle.kept_moves.specs.declared.form.Form.TheVariants as form
 

@@ -3,3 +3,4 @@ pub mod AllLemmas
 pub mod EntryLemmas
 pub mod KeptLemmas
 pub mod RunLemmas
+pub mod FrameLemmas

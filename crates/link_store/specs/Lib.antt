@@ -2,3 +2,5 @@ pub mod Beside
 pub mod Kept
 pub mod Links
 pub mod Runs
+pub mod Sending
+pub mod Spelled

@@ -1,4 +1,5 @@
-//! What was sent on the links between the nodes: each frame by its epoch, its kind, its thread and its number.
+//! What was sent on the links between the nodes: each frame by its epoch, its kind, its thread and
+//! its number; and what a master sends on its links, with how long each frame was.
 #![tactic(auto)]
 
 mod address;
@@ -6,7 +7,9 @@ mod kept;
 mod links;
 mod reading;
 mod run;
+mod sending;
 
 pub use address::Address;
 pub use kept::KeptFrame;
 pub use links::Links;
+pub use sending::SentFrames;

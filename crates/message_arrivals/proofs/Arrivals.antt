@@ -24,7 +24,7 @@ use Rattle.recovery_world.specs.World.{Setting, Sent, Ended as EndedEpoch, World
 use Rattle.recovery_world.specs.Events.{EndedWith, count_of, WasSent, IsFrameLength, HasNone, On}
 use Rattle.master_core.specs.declared.parts.Counts.{Counts}
 use Rattle.output_releases.specs.FromEventReplies.{Reply}
-use Rattle.sent_frames.specs.Sending.{length_at, lengths_of, entry_size, output_size}
+use Rattle.link_store.specs.Sending.{length_at, lengths_of, entry_size, output_size}
 use Rattle.output_releases.specs.FromSystemParts.{Parts}
 use Rattle.output_releases.specs.FromSystemParts.{AreCounts, StandsFor}
 use Rattle.output_releases.specs.FromSystemParts.{MovesOn, Releasing, Replies}

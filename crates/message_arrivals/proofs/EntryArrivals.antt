@@ -40,8 +40,8 @@ use Rattle.recovery_world.specs.World.{Setting, Sent, World, inputs_fed}
 use Rattle.recovery_world.specs.Events.{IsKnown, IsEntryOf, MayGo, On, Parts as WorldParts, entries_of_line}
 use Rattle.output_releases.proofs.FromRecoveryLaws.{within_sound}
 use Rattle.output_releases.specs.FromEventReplies.{Reply}
-use Rattle.sent_frames.specs.Sending.{Sending, length_at, lengths_of, entry_address, output_address, HasEntryFrame}
-use Rattle.sent_frames.specs.Sending.{HasOutputFrame, ForgetsEntries}
+use Rattle.link_store.specs.Sending.{Sending, length_at, lengths_of, entry_address, output_address, HasEntryFrame}
+use Rattle.link_store.specs.Sending.{HasOutputFrame, ForgetsEntries}
 use Rattle.output_releases.specs.FromSystemParts.{Parts, AreParts}
 use Rattle.output_releases.specs.FromSystemParts.{IsSentEntry, IsSentOutput, AreOutputs, StandsFor}
 use Rattle.output_releases.specs.Released.{names_of, NotesReleased}

@@ -11,7 +11,7 @@ use Rattle.recovery_world.specs.declared.event.Outcome.{Outcome}
 use Rattle.recovery_world.specs.declared.event.Outcome.TheVariants as outcome
 use Rattle.output_releases.specs.FromEventReplies.{Reply}
 use Rattle.output_logger.specs.Logger.{Logger}
-use Rattle.sent_frames.specs.Sending.{Sending, entry_address, output_address, ForgetsEntries, ForgetsOutputs}
+use Rattle.link_store.specs.Sending.{Sending, entry_address, output_address, ForgetsEntries, ForgetsOutputs}
 use Rattle.output_releases.specs.FromSystemParts.{Parts}
 use Rattle.output_releases.specs.Released.{NotesReleased, ForgetsReleased, AreForgotten}
 use Rattle.message_arrivals.specs.Arriving.{KnownAreForgotten, ForgetsTaken}

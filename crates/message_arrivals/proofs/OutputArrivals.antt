@@ -33,7 +33,7 @@ use Rattle.recovery_world.specs.Files.{sent_names}
 use Rattle.output_releases.proofs.FromRecoveryLaws.{within_sound}
 use Rattle.output_releases.proofs.FromRecoveryLaws.{number_high}
 use Rattle.output_releases.specs.FromEventReplies.{Reply}
-use Rattle.sent_frames.specs.Sending.{Sending, output_address, HasOutputFrame}
+use Rattle.link_store.specs.Sending.{Sending, output_address, HasOutputFrame}
 use Rattle.output_releases.specs.FromSystemParts.{Parts}
 use Rattle.output_releases.specs.FromSystemParts.{IsSentEntry, IsSentOutput, AreOutputs, StandsFor}
 use Rattle.output_releases.proofs.OutputLists.{outputs_more, named_as, noted_more, releases_as, sent_names_both}

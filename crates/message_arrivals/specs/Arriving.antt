@@ -10,7 +10,7 @@ use Rattle.recovery_world.specs.declared.event.Event.{Event}
 use Rattle.recovery_world.specs.declared.event.Event.TheVariants as event
 use Rattle.recovery_world.specs.declared.event.Outcome.TheVariants as outcome
 use Rattle.output_releases.specs.FromEventReplies.{Reply}
-use Rattle.sent_frames.specs.Sending.{Sending, entry_address, output_address}
+use Rattle.link_store.specs.Sending.{Sending, entry_address, output_address}
 use Rattle.output_releases.specs.FromSystemParts.{Parts}
 use Rattle.output_releases.specs.Released.{AreForgotten}
 

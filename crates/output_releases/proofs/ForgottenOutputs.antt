@@ -11,7 +11,7 @@ use Rattle.link_store.specs.Links.{address, frame_at, IsUpTo}
 use Rattle.plain_machine.specs.Program.{Meaning}
 use Rattle.plain_machine.specs.History.{Step}
 use Rattle.recovery_world.specs.World.{Setting, Sent, World}
-use Rattle.sent_frames.specs.Sending.{Sending, length_at, lengths_of, entry_address, output_address, ForgetsOutputs}
+use Rattle.link_store.specs.Sending.{Sending, length_at, lengths_of, entry_address, output_address, ForgetsOutputs}
 use Rattle.output_releases.specs.Released.{ForgetsReleased, AreForgotten}
 use Rattle.system_parts.specs.Parts.{Parts}
 use Rattle.system_parts.specs.SystemStanding.{IsSentEntry, IsSentOutput, HasSent, StandsFor}

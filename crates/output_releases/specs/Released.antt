@@ -5,7 +5,7 @@ use Rattle.access_log.specs.declared.entry.Output.{Output}
 use Rattle.dup_filter.specs.Numbers.{Numbers, numbers}
 use Rattle.link_store.specs.declared.address.Address.{Address}
 use Rattle.link_store.specs.Links.{frame_at}
-use Rattle.sent_frames.specs.Sending.{Sending, output_address}
+use Rattle.link_store.specs.Sending.{Sending, output_address}
 use Rattle.system_parts.specs.Parts.{Parts}
 
 -- the thread and number of each output

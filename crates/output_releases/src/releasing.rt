@@ -6,7 +6,7 @@ use access_log::Output;
 use box_program::Program;
 use dup_filter::Released;
 use plain_text::NoMemory;
-use sent_frames::SentFrames;
+use link_store::SentFrames;
 use system_parts::{Core, Releases};
 
 /// Appends the thread and number of each of these outputs.

@@ -12,7 +12,7 @@ use Rattle.plain_machine.specs.Agree.{SendsAfter}
 use Rattle.recovery_world.specs.World.{Setting, Sent, World, inputs_fed}
 use Rattle.recovery_world.specs.Events.{HasNumber, IsOutputOf}
 use Rattle.recovery_laws.proofs.Settlings.{number_high}
-use Rattle.sent_frames.specs.Sending.{output_address, HasOutputFrame}
+use Rattle.link_store.specs.Sending.{output_address, HasOutputFrame}
 use Rattle.system_parts.specs.Parts.{Parts}
 use Rattle.system_parts.specs.SystemStanding.{IsSentOutput, StandsFor}
 use Rattle.system_parts.proofs.OutputNumbers.{output_from_one}

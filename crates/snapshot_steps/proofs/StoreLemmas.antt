@@ -47,8 +47,8 @@ use Rattle.recovery_world.specs.declared.event.Outcome.{Outcome}
 use Rattle.recovery_world.specs.declared.event.Outcome.TheVariants as outcome
 use Rattle.recovery_laws.proofs.KeptWorlds.{line_entries, entries_line, within_sound}
 use Rattle.event_replies.specs.declared.reply.Reply.{Reply}
-use Rattle.sent_frames.specs.Sending.{Sending, length_at, lengths_of, entry_address, output_address, HasEntryFrame}
-use Rattle.sent_frames.specs.Sending.{HasOutputFrame, ForgetsCovered}
+use Rattle.link_store.specs.Sending.{Sending, length_at, lengths_of, entry_address, output_address, HasEntryFrame}
+use Rattle.link_store.specs.Sending.{HasOutputFrame, ForgetsCovered}
 use Rattle.output_releases.specs.Released.{names_of}
 use Rattle.output_releases.proofs.FromSystemParts.{line_log, past_in, past_good, holds_log, holds_moves}
 use Rattle.output_releases.proofs.FromSystemParts.{entry_frame_stays, output_frame_stays}

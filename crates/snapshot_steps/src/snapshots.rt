@@ -1,6 +1,6 @@
 ghost use Rattle.std.specs.Prelude.{◌≡◌, ◌<◌, ◌≤◌, ◌^◌, IfOk, length, sum};
 ghost use Rattle.recovery_world.specs.declared.event.Event.TheVariants as event_is;
-ghost use Rattle.sent_frames.specs.Sending.{ForgetsCovered};
+ghost use Rattle.link_store.specs.Sending.{ForgetsCovered};
 ghost use Rattle.output_releases.specs.FromSystemParts.{StandsForSome};
 ghost use Rattle.output_releases.specs.FromSystemParts.{Appends, MovesOn, Releasing, ComesTo, Replies};
 
@@ -10,7 +10,7 @@ use event_replies::{Reply, only};
 use output_releases::{Core, forget_released, note_released};
 use plain_text::NoMemory;
 use recovery_world::Outcome;
-use sent_frames::SentFrames;
+use link_store::SentFrames;
 use thread_clock::EntryCounts;
 
 /// How many entries there are, by the number of each thread.

@@ -24,7 +24,7 @@ use Rattle.access_log.specs.declared.entry.Output.{Output}
 use Rattle.std.proofs.lemmas.List.{length-replicate}
 use Rattle.std.proofs.lemmas.List.Elements.{All-nil}
 use Rattle.recovery_laws.proofs.KeptWorlds.{opening_sound}
-use Rattle.sent_frames.specs.Sending.{Sending, lengths_of, IsUnsent}
+use Rattle.link_store.specs.Sending.{Sending, lengths_of, IsUnsent}
 use Rattle.system_parts.specs.Parts.{Parts, AreParts}
 use Rattle.system_parts.specs.SystemStanding.{HasLogger, HasSent, HasSnapshots, HasEnded, HasGuide, StandsFor}
 

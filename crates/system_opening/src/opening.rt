@@ -14,7 +14,7 @@ use output_logger::OutputLogger;
 use plain_machine::Schedule;
 use plain_text::{NoMemory, Packets, Unit};
 use replay_guide::Guide;
-use sent_frames::SentFrames;
+use link_store::SentFrames;
 use snapshot_store::Store;
 use std::alloc::Global;
 use std::collections::VecDeque;

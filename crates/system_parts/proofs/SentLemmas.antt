@@ -13,8 +13,8 @@ use Rattle.entry_order.proofs.Parts.{stamp_stays}
 use Rattle.access_log.specs.declared.entry.StampedEntry.{StampedEntry}
 use Rattle.access_log.specs.declared.entry.Output.{Output}
 use Rattle.access_log.specs.Held.{Lane, lane, IsKnown}
-use Rattle.sent_frames.specs.FromLinkStore.{Address}
-use Rattle.sent_frames.specs.FromLinkStore.{frame_at, Sends}
+use Rattle.link_store.specs.declared.address.Address.{Address}
+use Rattle.link_store.specs.Links.{frame_at, Sends}
 use Rattle.wire_frames.specs.declared.frame.Frame.TheVariants as frame_of
 use Rattle.wire_frames.specs.Layout.{IsFrame}
 use Rattle.wire_frames.specs.Writing.{CanPutEntry, CanPutOutput}
@@ -32,9 +32,9 @@ use Rattle.recovery_world.specs.World.{Sent, World}
 use Rattle.recovery_world.specs.Events.{bytes_sent}
 use Rattle.replay_guide.proofs.FromRecoveryLaws.{sent_after}
 use Rattle.replay_guide.proofs.FromRecoveryLaws.{number_high}
-use Rattle.sent_frames.specs.Sending.{Sending, lengths_of, length_at, one_longer, entry_size, output_size}
-use Rattle.sent_frames.specs.Sending.{entry_address, output_address, HasEntryFrame, HasOutputFrame, SendsEntry}
-use Rattle.sent_frames.specs.Sending.{SendsOutput}
+use Rattle.link_store.specs.Sending.{Sending, lengths_of, length_at, one_longer, entry_size, output_size}
+use Rattle.link_store.specs.Sending.{entry_address, output_address, HasEntryFrame, HasOutputFrame, SendsEntry}
+use Rattle.link_store.specs.Sending.{SendsOutput}
 use Rattle.system_parts.specs.Parts.{Parts}
 use Rattle.system_parts.specs.SystemStanding.{IsSentEntry, IsSentOutput, HasSent}
 use Rattle.dup_filter.specs.Numbers.{Numbers, WasMarked}

@@ -10,9 +10,9 @@ use Rattle.plain_text.specs.declared.kind.Kind.TheVariants.{Log, Out}
 use Rattle.std.specs.Prelude.{slice_index}
 use Rattle.std.proofs.lemmas.Bool.{cases_lt}
 use Rattle.entry_order.proofs.Order.{is_or}
-use Rattle.sent_frames.specs.FromLinkStore.{Address}
-use Rattle.sent_frames.specs.FromLinkStore.{frame_at, IsUpTo}
-use Rattle.sent_frames.specs.Sending.{Sending, length_at, entry_address, ForgetsEntries, ForgetsCovered}
+use Rattle.link_store.specs.declared.address.Address.{Address}
+use Rattle.link_store.specs.Links.{frame_at, IsUpTo}
+use Rattle.link_store.specs.Sending.{Sending, length_at, entry_address, ForgetsEntries, ForgetsCovered}
 
 -- what was released stays so
 pub marks_stay : (old new : List Numbers) (go : List Output) → ReleasesOnce old new go → (t n : ℕ) → WasMarked old t n

@@ -15,7 +15,7 @@ use Rattle.snapshot_store.specs.FromMasterCore.{Counts}
 use Rattle.snapshot_store.specs.FromMasterCore.{Mastered, value_of}
 use Rattle.output_logger.specs.Logger.{Logger}
 use Rattle.snapshot_store.specs.Stored.{Snapshots}
-use Rattle.sent_frames.specs.Sending.{Sending}
+use Rattle.link_store.specs.Sending.{Sending}
 
 pub record Parts (P V : Type 0) : Type 0 where
   pub program : P

@@ -8,8 +8,8 @@ use Rattle.access_log.specs.declared.entry.StampedEntry.{StampedEntry}
 use Rattle.access_log.specs.declared.entry.Output.{Output}
 use Rattle.access_log.specs.Held.{Lane, lane, IsKnown}
 use Rattle.dup_filter.specs.Numbers.{Numbers, WasMarked}
-use Rattle.sent_frames.specs.FromLinkStore.{Address}
-use Rattle.sent_frames.specs.FromLinkStore.{frame_at}
+use Rattle.link_store.specs.declared.address.Address.{Address}
+use Rattle.link_store.specs.Links.{frame_at}
 use Rattle.plain_machine.specs.Program.{Meaning}
 use Rattle.plain_machine.specs.History.{Step, log_of, sent_of, outputs}
 use Rattle.plain_machine.specs.Agree.{SendsAfter}
@@ -25,8 +25,8 @@ use Rattle.recovery_world.specs.Events.{HasNumber, IsAmong, entries_of_line}
 use Rattle.recovery_world.specs.Limits.{IsWithin}
 use Rattle.recovery_world.specs.Files.{moves_made, sent_names}
 use Rattle.replay_guide.specs.FromRecoveryLaws.{Sound}
-use Rattle.sent_frames.specs.Sending.{Sending, lengths_of, length_at, entry_size, output_size, entry_address}
-use Rattle.sent_frames.specs.Sending.{output_address, HasEntryFrame, HasOutputFrame}
+use Rattle.link_store.specs.Sending.{Sending, lengths_of, length_at, entry_size, output_size, entry_address}
+use Rattle.link_store.specs.Sending.{output_address, HasEntryFrame, HasOutputFrame}
 use Rattle.system_parts.specs.Parts.{Parts}
 
 -- the same program, threads and unit, and the same packets, of which the first are fed

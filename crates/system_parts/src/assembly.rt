@@ -5,7 +5,7 @@ use plain_machine::Schedule;
 use plain_text::{Packet, Sequence, Unit};
 use recovery_world::InputLog;
 use replay_guide::Guide;
-use sent_frames::SentFrames;
+use link_store::SentFrames;
 use snapshot_store::{Counts, Master, Program, Store};
 use std::alloc::Global;
 use std::collections::VecDeque;

@@ -11,7 +11,7 @@ use Rattle.recovery_world.specs.declared.event.Outcome.TheVariants as outcome
 use Rattle.recovery_world.specs.World.{Setting, World}
 use Rattle.recovery_world.specs.Events.{entry_outcome}
 use Rattle.event_replies.specs.declared.reply.Stop.TheVariants as stop
-use Rattle.sent_frames.specs.Sending.{Sending}
+use Rattle.link_store.specs.Sending.{Sending}
 use Rattle.thread_steps.specs.FromSystemParts.{Parts}
 use Rattle.thread_steps.specs.Stepping.{AddsEntry, AddsOutput, NotesAs, Notes, NotesFor, PassesFor}
 use Rattle.thread_steps.proofs.NotedMoves.{Answer, notes_for, passes_for}

@@ -4,7 +4,7 @@ use Rattle.access_log.specs.declared.entry.Output.{Output}
 use Rattle.master_core.specs.declared.step.Stepped.{Stepped}
 use Rattle.master_core.specs.declared.step.Stepped.TheVariants as stepped
 use Rattle.recovery_world.specs.declared.event.Outcome.TheVariants as outcome
-use Rattle.sent_frames.specs.Sending.{Sending}
+use Rattle.link_store.specs.Sending.{Sending}
 use Rattle.system_parts.specs.Parts.{Parts}
 use Rattle.thread_steps.specs.Stepping.{AddsOutput, NotesMove, Notes}
 

@@ -34,7 +34,7 @@ use Rattle.recovery_laws.proofs.KeptWorlds.{within_sound}
 use Rattle.recovery_laws.proofs.LedMoves.{Made, made_move, made_step}
 use Rattle.event_replies.specs.declared.reply.Stop.{Stop}
 use Rattle.event_replies.specs.declared.reply.Stop.TheVariants as stop
-use Rattle.sent_frames.specs.Sending.{Sending, length_at, output_size}
+use Rattle.link_store.specs.Sending.{Sending, length_at, output_size}
 use Rattle.system_parts.specs.Parts.{Parts}
 use Rattle.system_parts.specs.SystemStanding.{AreOutputs, HasSnapshots, StandsFor}
 use Rattle.system_parts.specs.Resting.{RestsFor}

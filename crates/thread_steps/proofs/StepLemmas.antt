@@ -42,7 +42,7 @@ use Rattle.recovery_laws.proofs.KeptWorlds.{within_sound}
 use Rattle.recovery_laws.proofs.LedMoves.{Made, made_move, made_step}
 use Rattle.event_replies.specs.declared.reply.Stop.{Stop}
 use Rattle.event_replies.specs.declared.reply.Stop.TheVariants as stop
-use Rattle.sent_frames.specs.Sending.{Sending, length_at, output_size}
+use Rattle.link_store.specs.Sending.{Sending, length_at, output_size}
 use Rattle.system_parts.specs.Parts.{Parts}
 use Rattle.system_parts.specs.SystemStanding.{AreOutputs, HasSnapshots, HasGuide, NotesNames, StandsFor}
 use Rattle.run_end.proofs.InputLemmas.{hand_is, input_there}

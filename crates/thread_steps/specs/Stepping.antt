@@ -20,7 +20,7 @@ use Rattle.recovery_world.specs.Limits.{limit_passed, OnWithin, Passes}
 use Rattle.recovery_laws.specs.Making.{CanMake, after_made}
 use Rattle.event_replies.specs.declared.reply.Stop.{Stop}
 use Rattle.event_replies.specs.declared.reply.Stop.TheVariants as stop
-use Rattle.sent_frames.specs.Sending.{Sending, SendsEntry, SendsOutput}
+use Rattle.link_store.specs.Sending.{Sending, SendsEntry, SendsOutput}
 use Rattle.system_parts.specs.Parts.{Parts}
 use Rattle.system_parts.specs.Resting.{RestsFor}
 use Rattle.system_parts.specs.SystemStanding.{StandsFor}

@@ -1,7 +1,7 @@
 use Rattle.std.proofs.Common.{Err, length, sym, ap, ◌∙◌}
 use Rattle.std.proofs.lemmas.Result.{IfOk-weaker}
 use Rattle.wire_frames.proofs.Whole.{begins_whole}
-use Rattle.sent_frames.proofs.FromLinkStore.{gives_no_fault}
+use Rattle.link_store.proofs.KeptLemmas.{gives_no_fault}
 use Rattle.kept_moves.specs.Keeping.{shown_by}
 use Rattle.kept_moves.proofs.kept.told_in.Goals as goal
 

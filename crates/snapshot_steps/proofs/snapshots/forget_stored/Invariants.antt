@@ -1,4 +1,4 @@
-use Rattle.sent_frames.specs.Sending.{ForgetsCovered}
+use Rattle.link_store.specs.Sending.{ForgetsCovered}
 use Rattle.snapshot_steps.proofs.snapshots.forget_stored.Given as goal
 
 -- frames of entries of the threads before this one may be forgotten

@@ -1,8 +1,8 @@
 use Rattle.std.proofs.Common.{sym, subst, ◌<◌}
 use Rattle.std.proofs.lemmas.Result.{on_ok_weaker}
-use Rattle.sent_frames.specs.Sending.{Sending}
-use Rattle.sent_frames.proofs.FrameLemmas.{sends_entry, one_longer_is}
-use Rattle.sent_frames.proofs.sending.SentFrames.send_entry_frame.Goals as goal
+use Rattle.link_store.specs.Sending.{Sending}
+use Rattle.link_store.proofs.FrameLemmas.{sends_entry, one_longer_is}
+use Rattle.link_store.proofs.sending.SentFrames.send_entry_frame.Goals as goal
 
 pub returns-clause-ok : goal.returns-clause-ok
 returns-clause-ok c =

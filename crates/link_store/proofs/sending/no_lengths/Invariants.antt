@@ -1,5 +1,5 @@
 use Rattle.std.proofs.Common.{◌≡◌, [], replicate}
-use Rattle.sent_frames.proofs.sending.no_lengths.Given as goal
+use Rattle.link_store.proofs.sending.no_lengths.Given as goal
 
 abbrev pub invariant-loop : goal.invariant-loop
 invariant-loop l = l.lengths.items ≡ replicate l.counter []

@@ -6,14 +6,14 @@ ghost use Rattle.wire_frames.specs.FromAccessLog.{Output as OutputValue};
 ghost use Rattle.plain_text.specs.declared.kind.Kind.TheVariants as kind_is;
 ghost use Rattle.link_store.specs.Links.{frame_at};
 ghost use Rattle.wire_frames.specs.Writing.{CanPutEntry, CanPutOutput};
-ghost use Rattle.sent_frames.specs.Sending.{IsUnsent, SendsEntry, SendsOutput, SendsAgain};
-ghost use Rattle.sent_frames.specs.Sending.{CountsEntry};
-ghost use Rattle.sent_frames.specs.Sending.{ForgetsEntries, ForgetsOutputs, BeginsEpoch, TurnsBack};
-ghost use Rattle.sent_frames.specs.Sending.{HasEntryFrame, HasOutputFrame, entry_address};
-ghost use Rattle.sent_frames.specs.Sending.{output_address, length_at};
-ghost use Rattle.sent_frames.specs.Spelled.{IsEntryFrame, IsOutputFrame};
+ghost use Rattle.link_store.specs.Sending.{IsUnsent, SendsEntry, SendsOutput, SendsAgain};
+ghost use Rattle.link_store.specs.Sending.{CountsEntry};
+ghost use Rattle.link_store.specs.Sending.{ForgetsEntries, ForgetsOutputs, BeginsEpoch, TurnsBack};
+ghost use Rattle.link_store.specs.Sending.{HasEntryFrame, HasOutputFrame, entry_address};
+ghost use Rattle.link_store.specs.Sending.{output_address, length_at};
+ghost use Rattle.link_store.specs.Spelled.{IsEntryFrame, IsOutputFrame};
 
-use link_store::Links;
+use crate::Links;
 use plain_text::{Bytes, Kind, NoMemory, Sequence};
 use std::alloc::Global;
 use std::marker::Model;
@@ -36,7 +36,7 @@ pub struct SentFrames {
 }
 
 impl Model for SentFrames {
-    ghost use Rattle.sent_frames.specs.Sending.{Sending, IsSending};
+    ghost use Rattle.link_store.specs.Sending.{Sending, IsSending};
 
     ghost Value = { Sending };
 

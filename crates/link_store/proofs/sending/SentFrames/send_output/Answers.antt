@@ -3,10 +3,10 @@ use Rattle.std.proofs.lemmas.Result.{on_ok_weaker}
 use Rattle.wire_frames.specs.declared.frame.Frame.TheVariants as frame
 use Rattle.wire_frames.specs.Layout.{written}
 use Rattle.wire_frames.specs.Writing.{CanPutOutput}
-use Rattle.sent_frames.specs.Sending.{Sending}
-use Rattle.sent_frames.specs.Spelled.{IsOutputFrame}
-use Rattle.sent_frames.proofs.FrameLemmas.{sends_output, one_longer_is}
-use Rattle.sent_frames.proofs.sending.SentFrames.send_output.Goals as goal
+use Rattle.link_store.specs.Sending.{Sending}
+use Rattle.link_store.specs.Spelled.{IsOutputFrame}
+use Rattle.link_store.proofs.FrameLemmas.{sends_output, one_longer_is}
+use Rattle.link_store.proofs.sending.SentFrames.send_output.Goals as goal
 
 pub returns-clause-ok : goal.returns-clause-ok
 returns-clause-ok c =

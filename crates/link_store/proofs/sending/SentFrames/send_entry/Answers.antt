@@ -2,8 +2,8 @@ use Rattle.std.proofs.Common.{subst, refl}
 use Rattle.std.proofs.lemmas.Result.{on_ok_weaker}
 use Rattle.wire_frames.specs.declared.frame.Frame.TheVariants as frame
 use Rattle.wire_frames.specs.Layout.{IsFrame}
-use Rattle.sent_frames.specs.Sending.{Sending}
-use Rattle.sent_frames.proofs.sending.SentFrames.send_entry.Goals as goal
+use Rattle.link_store.specs.Sending.{Sending}
+use Rattle.link_store.proofs.sending.SentFrames.send_entry.Goals as goal
 
 pub returns-clause-ok : goal.returns-clause-ok
 returns-clause-ok c =

@@ -1,8 +1,8 @@
 use Rattle.std.proofs.Common.{arith, sym, subst, ℕ, List, ◌<◌, ◌^◌, slice_index}
 use Rattle.wire_frames.specs.Writing.{CanPutEntry}
-use Rattle.sent_frames.specs.Sending.{Sending}
-use Rattle.sent_frames.proofs.FrameLemmas.{counts_entry, one_longer_is}
-use Rattle.sent_frames.proofs.sending.SentFrames.count_entry.Goals as goal
+use Rattle.link_store.specs.Sending.{Sending}
+use Rattle.link_store.proofs.FrameLemmas.{counts_entry, one_longer_is}
+use Rattle.link_store.proofs.sending.SentFrames.count_entry.Goals as goal
 
 pub returns-clause-ok : goal.returns-clause-ok
 returns-clause-ok c =

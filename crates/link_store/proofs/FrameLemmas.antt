@@ -15,9 +15,9 @@ use Rattle.wire_frames.specs.Parts.{FitsWord}
 use Rattle.wire_frames.proofs.Ranges.{is_sent, is_done}
 use Rattle.wire_frames.proofs.Whole.{is_written}
 use Rattle.wire_frames.specs.Writing.{CanPutEntry, CanPutOutput}
-use Rattle.sent_frames.specs.Sending.{Sending, HasEntryFrame, HasOutputFrame, SendsEntry, SendsOutput, SendsAgain}
-use Rattle.sent_frames.specs.Sending.{CountsEntry, entry_size, entry_address, output_address, lengths_of}
-use Rattle.sent_frames.specs.Spelled.{IsEntryFrame, IsOutputFrame}
+use Rattle.link_store.specs.Sending.{Sending, HasEntryFrame, HasOutputFrame, SendsEntry, SendsOutput, SendsAgain}
+use Rattle.link_store.specs.Sending.{CountsEntry, entry_size, entry_address, output_address, lengths_of}
+use Rattle.link_store.specs.Spelled.{IsEntryFrame, IsOutputFrame}
 
 -- the frame that is found is that of the entry, or of the output
 

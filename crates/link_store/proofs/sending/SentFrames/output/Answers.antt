@@ -1,8 +1,8 @@
 use Rattle.std.proofs.Common.{sym, subst}
 use Rattle.std.proofs.lemmas.Result.{IfOk-weaker}
-use Rattle.sent_frames.specs.Sending.{Sending, HasOutputFrame}
-use Rattle.sent_frames.proofs.FrameLemmas.{output_bytes}
-use Rattle.sent_frames.proofs.sending.SentFrames.output.Goals as goal
+use Rattle.link_store.specs.Sending.{Sending, HasOutputFrame}
+use Rattle.link_store.proofs.FrameLemmas.{output_bytes}
+use Rattle.link_store.proofs.sending.SentFrames.output.Goals as goal
 
 pub returns-in-Some-clause-there : goal.returns-in-Some-clause-there
 returns-in-Some-clause-there c =

@@ -5,7 +5,7 @@ use Rattle.wire_frames.specs.FromAccessLog.{Output}
 use Rattle.wire_frames.specs.declared.frame.Frame.TheVariants as frame_of
 use Rattle.wire_frames.specs.Layout.{IsFrame}
 use Rattle.wire_frames.specs.Writing.{CanPutEntry, CanPutOutput}
-use Rattle.sent_frames.specs.Sending.{entry_size, output_size}
+use Rattle.link_store.specs.Sending.{entry_size, output_size}
 
 -- the bytes are the frame of the entry, or of the output, by a sender of this epoch and number of threads, in the form
 -- that is written

@@ -6,9 +6,9 @@ use Rattle.link_store.specs.Links.{address, Sends}
 use Rattle.wire_frames.specs.declared.frame.Frame.TheVariants as frame
 use Rattle.wire_frames.specs.Layout.{written, IsFrame}
 use Rattle.wire_frames.specs.Writing.{CanPutOutput}
-use Rattle.sent_frames.specs.Sending.{Sending}
-use Rattle.sent_frames.proofs.FrameLemmas.{sends_again}
-use Rattle.sent_frames.proofs.sending.SentFrames.send_again.Goals as goal
+use Rattle.link_store.specs.Sending.{Sending}
+use Rattle.link_store.proofs.FrameLemmas.{sends_again}
+use Rattle.link_store.proofs.sending.SentFrames.send_again.Goals as goal
 
 pub returns-clause-ok : goal.returns-clause-ok
 returns-clause-ok c =

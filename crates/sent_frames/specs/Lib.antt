@@ -1,3 +1,0 @@
-pub mod Sending
-pub mod Spelled
-pub mod FromLinkStore
