@@ -11,7 +11,7 @@ use Rattle.recovery_world.specs.declared.event.Outcome.{Outcome}
 use Rattle.recovery_world.specs.declared.event.Outcome.TheVariants as outcome
 use Rattle.recovery_world.specs.World.{Setting, Sent, World, opening}
 use Rattle.recovery_world.specs.Many.{OnAny}
-use Rattle.recovery_world.specs.Files.{one}
+use Rattle.plain_text.specs.NumberedWords.{one}
 
 -- Entries that were made again
 

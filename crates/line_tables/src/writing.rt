@@ -1,7 +1,7 @@
 //! Words with numbers, as lines are written.
 ghost use Rattle.std.specs.Prelude.{◌≡◌, ◌++◌, OnOk};
 ghost use Rattle.std.specs.String.{string_bytes};
-ghost use Rattle.recovery_world.specs.Files.{one, two, kind_word};
+ghost use Rattle.plain_text.specs.NumberedWords.{one, two, kind_word};
 
 use plain_text::{Kind, NoMemory, put_decimal};
 

@@ -4,3 +4,4 @@ pub mod LineFiles
 pub mod Lines
 pub mod Octets
 pub mod Packets
+pub mod NumberedWords

@@ -6,7 +6,7 @@ use Rattle.plain_text.specs.declared.fault.ReadError.{ReadError}
 use Rattle.plain_text.specs.declared.limit.TheConstants.{MOST_EVENTS}
 use Rattle.plain_text.specs.LineFiles.{LineForm, IsFile, text_of}
 use Rattle.plain_text.specs.LineFiles as files
-use Rattle.recovery_world.specs.Files.{kind_word, one, two}
+use Rattle.plain_text.specs.NumberedWords.{kind_word, one, two}
 use Rattle.line_tables.specs.Parts.{AreNumbers}
 use Rattle.line_tables.specs.Tables.{Table, line_form}
 use Rattle.plan_script.specs.declared.plan.PlanLine.{PlanLine}

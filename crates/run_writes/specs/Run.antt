@@ -19,7 +19,8 @@ use Rattle.recovery_world.specs.declared.event.Event.{Event}
 use Rattle.recovery_world.specs.World.{Setting, World as SystemWorld}
 use Rattle.recovery_world.specs.Many.{Stops}
 use Rattle.recovery_world.specs.Finish.{IsFinish}
-use Rattle.recovery_world.specs.Files.{one, two, done_line, moves_made, Leaves, LeavesAt}
+use Rattle.plain_text.specs.NumberedWords.{one, two}
+use Rattle.recovery_world.specs.Files.{done_line, moves_made, Leaves, LeavesAt}
 use Rattle.output_files.specs.Writes.{report_file, Write, Creates, Appends, Reports, HasWritten, HasBegun}
 use Rattle.run_writes.specs.declared.opening.ScriptRun.{ScriptRun}
 use Rattle.run_writes.specs.declared.opening.RunFiles.{RunFiles}

@@ -2,7 +2,8 @@
 use Rattle.std.proofs.Common.{◌≡◌, ℕ, List, [], ◌∷◌, ◌++◌, refl, ap}
 use Rattle.std.specs.Prelude.{codes}
 use Rattle.recovery_world.specs.World.{Sent}
-use Rattle.recovery_world.specs.Files.{two, freed_words, sent_names}
+use Rattle.plain_text.specs.NumberedWords.{two}
+use Rattle.recovery_world.specs.Files.{freed_words, sent_names}
 
 abbrev pub names_words : List (ℕ × ℕ) → List ℕ
 names_words [] = []

@@ -3,7 +3,8 @@ ghost use Rattle.std.specs.Prelude.{◌≡◌, ◌++◌, codes, List, OnOk};
 ghost use Rattle.std.specs.String.{string_bytes};
 ghost use Rattle.recovery_world.specs.declared.event.Outcome.TheVariants as outcome_is;
 ghost use Rattle.recovery_world.specs.World.{Sent};
-ghost use Rattle.recovery_world.specs.Files.{one, two, outcome_words, freed_words, sent_names};
+ghost use Rattle.plain_text.specs.NumberedWords.{one, two};
+ghost use Rattle.recovery_world.specs.Files.{outcome_words, freed_words, sent_names};
 
 use line_tables::{put_one, put_two, put_word};
 use plain_text::NoMemory;

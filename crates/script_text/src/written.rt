@@ -1,6 +1,7 @@
 ghost use Rattle.std.specs.Prelude.{◌≡◌, ◌++◌, codes, IfOk, OnOk};
 ghost use Rattle.std.specs.String.{string_bytes};
-ghost use Rattle.recovery_world.specs.Files.{one, given_words, event_words};
+ghost use Rattle.plain_text.specs.NumberedWords.{one};
+ghost use Rattle.recovery_world.specs.Files.{given_words, event_words};
 ghost use Rattle.line_tables.specs.Parts.{AreNumbers};
 ghost use Rattle.script_text.specs.Scripts.{values_of};
 
