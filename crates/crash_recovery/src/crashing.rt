@@ -15,10 +15,10 @@ ghost use Rattle.crash_recovery.specs.Unreleased.{HasRest, AddsUnreleased, AreUn
 use access_log::{Kept, Outputs};
 use box_program::Program;
 use dup_filter::Released;
+use link_store::SentFrames;
 use master_core::{Counts, Master};
 use plain_text::{NoMemory, Sequence};
 use recovery_world::Outcome;
-use link_store::SentFrames;
 use std::alloc::Global;
 use system_parts::{Core, Guide};
 

@@ -14,7 +14,7 @@ use Rattle.input_files.specs.declared.capture_file.Capture.{Capture}
 use Rattle.input_files.specs.Files.{KeepsOutputs}
 use Rattle.live_writes.specs.Script.{SpareName}
 use Rattle.live_writes.proofs.ScriptSteps.{spare_cut, spared}
-use Rattle.drill_command.specs.Drill.{HasBegunDrill, HasDrilled, HasStopped, IsWritten, Stopped, StopsAt, Whole}
+use Rattle.noted_runs.specs.Drill.{HasBegunDrill, HasDrilled, HasStopped, IsWritten, Stopped, StopsAt, Whole}
 use Rattle.job_commands.specs.declared.first_inputs.FirstInputs.{FirstInputs}
 use Rattle.job_commands.specs.declared.status.Status.{Status}
 use Rattle.job_commands.specs.declared.status.Status.TheVariants as status

@@ -6,7 +6,7 @@ use Rattle.world_io.specs.World.{Shown}
 use Rattle.recovery_world.specs.declared.event.Event.{Event}
 use Rattle.run_writes.specs.declared.opening.ScriptRun.{ScriptRun}
 use Rattle.run_writes.specs.Run.{setting_of}
-use Rattle.run_picture.specs.Picture.{HasBegunPicture}
+use Rattle.noted_runs.specs.Picture.{HasBegunPicture}
 
 pub drawn_as : (k kind : BoxKind) (title : List ℕ) (run : ScriptRun) (events : List Event) (name : List ℕ)
     (old new : Shown) → kind ≡ k

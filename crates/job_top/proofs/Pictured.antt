@@ -17,8 +17,8 @@ use Rattle.run_writes.specs.Run.{KeepsShown}
 use Rattle.input_files.specs.Files.{KeepsOutputs}
 use Rattle.live_writes.specs.Script.{SpareName}
 use Rattle.live_writes.proofs.ScriptSteps.{spare_cut, spared}
-use Rattle.run_picture.specs.Picture.{HasBegunPicture, HasPictured, HasStopped, picture_writes}
-use Rattle.run_picture.proofs.Performed.{noted_performs}
+use Rattle.noted_runs.specs.Picture.{HasBegunPicture, HasPictured, HasStopped, picture_writes}
+use Rattle.noted_runs.proofs.PicturePerformed.{noted_performs}
 use Rattle.job_commands.specs.declared.inputs.Inputs.{Inputs}
 use Rattle.job_commands.specs.declared.status.Status.{Status}
 use Rattle.job_commands.specs.declared.status.Status.TheVariants as status

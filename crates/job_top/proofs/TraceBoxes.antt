@@ -6,7 +6,7 @@ use Rattle.world_io.specs.World.{Shown}
 use Rattle.recovery_world.specs.declared.event.Event.{Event}
 use Rattle.run_writes.specs.declared.opening.ScriptRun.{ScriptRun}
 use Rattle.run_writes.specs.Run.{setting_of}
-use Rattle.packet_trace.specs.Trace.{HasBegunTrace}
+use Rattle.noted_runs.specs.Trace.{HasBegunTrace}
 use Rattle.job_top.specs.Trace.{drop_register}
 
 pub begun_as : (k kind : BoxKind) (run : ScriptRun) (events : List Event) (name : List ℕ) (old new : Shown)

@@ -15,8 +15,8 @@ use Rattle.run_writes.specs.Run.{KeepsShown}
 use Rattle.input_files.specs.Files.{KeepsOutputs}
 use Rattle.live_writes.specs.Script.{SpareName}
 use Rattle.live_writes.proofs.ScriptSteps.{spare_cut, spared}
-use Rattle.packet_trace.specs.Trace.{HasBegunTrace, HasStopped, HasTraced, trace_writes}
-use Rattle.packet_trace.specs.Table.{table_text}
+use Rattle.noted_runs.specs.Trace.{HasBegunTrace, HasStopped, HasTraced, trace_writes}
+use Rattle.noted_runs.specs.Table.{table_text}
 use Rattle.job_commands.specs.declared.inputs.Inputs.{Inputs}
 use Rattle.job_commands.specs.declared.status.Status.{Status}
 use Rattle.job_commands.specs.declared.status.Status.TheVariants as status

@@ -12,8 +12,8 @@ use Rattle.box_conf.specs.Kinds.{meaning_of}
 use Rattle.world_io.specs.World.{Shown}
 use Rattle.recovery_world.specs.World.{Setting}
 use Rattle.run_writes.specs.Run.{OutputNames, KeepsShown}
-use Rattle.drill_command.specs.declared.drill.DrillRun.{DrillRun}
-use Rattle.drill_command.specs.Drill.{Drills, StopsAt, HasDrilled, HasStopped, HasBegunDrill, setting_of}
+use Rattle.noted_runs.specs.declared.drill.DrillRun.{DrillRun}
+use Rattle.noted_runs.specs.Drill.{Drills, StopsAt, HasDrilled, HasStopped, HasBegunDrill, setting_of}
 use Rattle.input_files.specs.Judging.{AcceptsBox, AcceptsCapture}
 use Rattle.job_commands.specs.declared.first_inputs.FirstInputs.{FirstInputs}
 use Rattle.job_commands.specs.declared.status.Status.{Status}

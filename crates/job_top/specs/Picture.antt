@@ -4,7 +4,7 @@ use Rattle.std.specs.Prelude.{◌≡◌, ◌⊎◌, ℕ, List}
 use Rattle.plain_text.specs.declared.limit.Limit.{Limit}
 use Rattle.world_io.specs.World.{Shown}
 use Rattle.run_writes.specs.Run.{KeepsShown}
-use Rattle.run_picture.specs.Picture.{HasPictured, HasStopped, HasBegunPicture}
+use Rattle.noted_runs.specs.Picture.{HasPictured, HasStopped, HasBegunPicture}
 use Rattle.job_commands.specs.declared.inputs.Inputs.{Inputs}
 use Rattle.job_commands.specs.Run.{AcceptsInputs, setting_for}
 use Rattle.job_commands.specs.Words.{PictureNames, pictured_run}

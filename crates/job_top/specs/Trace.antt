@@ -8,8 +8,8 @@ use Rattle.box_conf.specs.Kinds.{meaning_of}
 use Rattle.world_io.specs.World.{Shown}
 use Rattle.recovery_world.specs.World.{World as SystemWorld}
 use Rattle.run_writes.specs.Run.{KeepsShown}
-use Rattle.packet_trace.specs.declared.rows.Row.{Row}
-use Rattle.packet_trace.specs.Trace.{Traces, HasTraced, HasStopped, HasBegunTrace, traced_events}
+use Rattle.noted_runs.specs.declared.trace.rows.Row.{Row}
+use Rattle.noted_runs.specs.Trace.{Traces, HasTraced, HasStopped, HasBegunTrace, traced_events}
 use Rattle.input_files.specs.Judging.{ScriptTooLarge}
 use Rattle.job_commands.specs.declared.inputs.Inputs.{Inputs}
 use Rattle.job_commands.specs.declared.status.Status.{Status}

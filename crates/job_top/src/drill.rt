@@ -5,7 +5,7 @@ ghost use Rattle.world_io.specs.World.{Start, WritingFailed};
 ghost use Rattle.input_files.specs.Files.{OpensAll, OpensFirst};
 ghost use Rattle.output_files.specs.Written.{WritesFiles};
 ghost use Rattle.run_writes.specs.Run.{KeepsShown};
-ghost use Rattle.drill_command.specs.Drill.{CanDrill, HasBegunDrill, HasDrilled, HasStopped};
+ghost use Rattle.noted_runs.specs.Drill.{CanDrill, HasBegunDrill, HasDrilled, HasStopped};
 ghost use Rattle.job_commands.specs.Status.{AtInputs, AtOutputs, IsRefusal, stage_of};
 ghost use Rattle.job_commands.specs.Status.{stage_of_limit};
 ghost use Rattle.job_commands.specs.Words.{drill_inputs, drill_names_of};
@@ -15,8 +15,8 @@ ghost use Rattle.job_top.specs.Drill.{has_drop_table as has_drop_table_of};
 ghost use Rattle.job_top.specs.Headline.{KeepsDrillPromise};
 
 use box_conf::BoxKind;
-use drill_command::{DrillRun, run_drill};
 use job_commands::{DrillWords, FirstInputs, Status, read_first_inputs, run_outcome};
+use noted_runs::{DrillRun, run_drill};
 use run_writes::{RunError, RunFiles};
 use std::alloc::Global;
 use world_io::World;

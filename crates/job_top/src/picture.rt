@@ -5,7 +5,7 @@ ghost use Rattle.world_io.specs.World.{Start, WritingFailed};
 ghost use Rattle.input_files.specs.Files.{OpensAll, OpensFirst};
 ghost use Rattle.output_files.specs.Written.{WritesFiles};
 ghost use Rattle.run_writes.specs.Run.{CanRun, KeepsShown};
-ghost use Rattle.run_picture.specs.Picture.{HasBegunPicture, HasPictured, HasStopped};
+ghost use Rattle.noted_runs.specs.Picture.{HasBegunPicture, HasPictured, HasStopped};
 ghost use Rattle.job_commands.specs.Judging.{Judges};
 ghost use Rattle.job_commands.specs.Run.{script_of, setting_for};
 ghost use Rattle.job_commands.specs.Status.{AtInputs, AtOutputs, IsRefusal, stage_of};
@@ -15,8 +15,8 @@ ghost use Rattle.job_top.specs.Picture.{DrawsInOrder, DrawsToLimit, DrawsWhole};
 
 use box_conf::BoxKind;
 use job_commands::{Inputs, PictureWords, RunWords, Status, read_inputs, run_outcome};
+use noted_runs::run_picture;
 use plain_text::Text;
-use run_picture::run_picture;
 use run_writes::{RunError, ScriptRun};
 use std::alloc::Global;
 use world_io::World;

@@ -21,7 +21,6 @@ ghost use Rattle.job_top.specs.Resume.{resumption_of, setting_from};
 
 use box_conf::BoxKind;
 use box_program::Program;
-use drill_command::System;
 use hand_command::run_from;
 use hand_faults::hand_fault;
 use handover_world::{ResumeError, images_stand_for_worlds};
@@ -29,6 +28,7 @@ use input_files::ImageFile;
 use job_commands::{
     InputFault, ResumeSource, ResumeWords, Status, read_resume_source, read_script, run_outcome,
 };
+use noted_runs::System;
 use plain_text::{Packets, Unit};
 use run_writes::RunFiles;
 use std::alloc::Global;

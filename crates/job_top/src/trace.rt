@@ -5,7 +5,7 @@ ghost use Rattle.world_io.specs.World.{Start, WritingFailed};
 ghost use Rattle.input_files.specs.Files.{OpensAll, OpensFirst};
 ghost use Rattle.output_files.specs.Written.{WritesFiles};
 ghost use Rattle.run_writes.specs.Run.{CanRun, KeepsShown};
-ghost use Rattle.packet_trace.specs.Trace.{HasBegunTrace, HasStopped, HasTraced};
+ghost use Rattle.noted_runs.specs.Trace.{HasBegunTrace, HasStopped, HasTraced};
 ghost use Rattle.job_commands.specs.Run.{script_of, setting_for};
 ghost use Rattle.job_commands.specs.Status.{AtInputs, AtOutputs, IsRefusal, stage_of};
 ghost use Rattle.job_commands.specs.Status.{stage_of_limit};
@@ -15,7 +15,7 @@ ghost use Rattle.job_top.specs.Trace.{drop_register as drop_register_of};
 
 use box_conf::BoxKind;
 use job_commands::{Inputs, RunWords, Status, TraceWords, read_inputs, run_outcome};
-use packet_trace::run_trace;
+use noted_runs::run_trace;
 use plain_text::Text;
 use run_writes::{RunError, ScriptRun};
 use std::alloc::Global;

@@ -5,8 +5,8 @@ ghost use Rattle.output_releases.specs.Released.{names_of};
 use access_log::Output;
 use box_program::Program;
 use dup_filter::Released;
-use plain_text::NoMemory;
 use link_store::SentFrames;
+use plain_text::NoMemory;
 use system_parts::{Core, Releases};
 
 /// Appends the thread and number of each of these outputs.

@@ -7,10 +7,10 @@ ghost use Rattle.output_releases.specs.FromSystemParts.{Appends, MovesOn, Releas
 use access_log::Outputs;
 use box_program::Program;
 use event_replies::{Reply, only};
+use link_store::SentFrames;
 use output_releases::{Core, forget_released, note_released};
 use plain_text::NoMemory;
 use recovery_world::Outcome;
-use link_store::SentFrames;
 use thread_clock::EntryCounts;
 
 /// How many entries there are, by the number of each thread.

@@ -1,11 +1,11 @@
 use drawn_words::DrawnWords;
 use event_replies::Releases;
+use link_store::SentFrames;
 use output_logger::OutputLogger;
 use plain_machine::Schedule;
 use plain_text::{Packet, Sequence, Unit};
 use recovery_world::InputLog;
 use replay_guide::Guide;
-use link_store::SentFrames;
 use snapshot_store::{Counts, Master, Program, Store};
 use std::alloc::Global;
 use std::collections::VecDeque;

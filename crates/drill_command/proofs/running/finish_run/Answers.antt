@@ -1,9 +1,0 @@
-use Rattle.std.proofs.Common.{ap, sym}
-use Rattle.drill_command.proofs.Ended.{stands_same}
-use Rattle.drill_command.proofs.running.finish_run.Goals as goal
-
-pub returns-in_ok-finish-in-Ok-clause-finish : goal.returns-in_ok-finish-in-Ok-clause-finish
-returns-in_ok-finish-in-Ok-clause-finish g c s w stands =
-    c.in_ok-finish-in-Ok.ensures s w
-    (stands_same _ _ s w c.show_first.new.system (ap g.P.Program.meaning (sym c.in-Ok.ensures.program))
-    (c.in-Ok.ensures.stands s w stands)).parts

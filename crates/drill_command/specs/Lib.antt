@@ -1,4 +1,0 @@
-pub mod Drill
-pub mod Running
-pub mod Ends
-pub mod Drilled

@@ -1,5 +1,0 @@
-use Rattle.std.proofs.Common.{◌≡◌, ◌++◌, replicate}
-use Rattle.packet_trace.proofs.performing.put_departures.Given as goal
-
-abbrev pub invariant-loop : goal.invariant-loop
-invariant-loop l = l.departures ≡ l.fn.departures ++ replicate l.counter l.departure

@@ -1,4 +1,0 @@
-pub mod Going
-pub mod Noting
-pub mod Picture
-pub mod Picturing
