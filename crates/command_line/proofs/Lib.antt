@@ -1,4 +1,3 @@
 mod Printed
 pub mod NoCommand
 mod ExitCodes
-pub mod WatchedWords

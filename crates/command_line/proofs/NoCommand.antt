@@ -7,12 +7,12 @@ use Rattle.job_commands.specs.declared.status.Status.{Status}
 use Rattle.job_commands.specs.declared.status.Status.TheVariants.{Done, NoMemory, WriteFault}
 use Rattle.job_commands.specs.Status.{IsRefusal}
 use Rattle.job_commands.specs.Words.{Asked, IfAsks, asked, inputs_of}
-use Rattle.tap_command.specs.Answers.{AnswersBytes}
+use Rattle.job_top.specs.Answers.{AnswersBytes}
 use Rattle.world_io.specs.World.{Ledger, Shown}
-use Rattle.command_line.specs.Printing.{Prints, asked_text, text_for}
-use Rattle.command_line.specs.Request.{request_of}
-use Rattle.command_line.specs.declared.request.Request.{Request}
-use Rattle.command_line.specs.declared.request.Request.TheVariants.{Command}
+use Rattle.command_words.specs.Printing.{Prints, asked_text, text_for}
+use Rattle.command_words.specs.Request.{request_of}
+use Rattle.command_words.specs.declared.request.Request.{Request}
+use Rattle.command_words.specs.declared.request.Request.TheVariants.{Command}
 
 -- Of help and version: what the status is.
 

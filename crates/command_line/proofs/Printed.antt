@@ -4,7 +4,7 @@ use Rattle.world_io.specs.World.{Shown}
 use Rattle.output_files.specs.Writes.{report_file, Write, Creates, Appends, Reports, HasWritten, HasBegun, IsCut}
 use Rattle.job_commands.specs.declared.status.Status.{Status}
 use Rattle.job_commands.specs.declared.status.Status.TheVariants.{Done}
-use Rattle.command_line.specs.Printing.{Prints}
+use Rattle.command_words.specs.Printing.{Prints}
 
 pub prints_whole : (text : List ℕ) (status : Status) (old new : Shown) → HasWritten (Reports text ∷ []) old new
     → Prints text status old new

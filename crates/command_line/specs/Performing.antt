@@ -3,8 +3,8 @@
 use Rattle.std.specs.Prelude.{ℕ, List, IfSome}
 use Rattle.world_io.specs.World.{Shown}
 use Rattle.job_commands.specs.declared.status.Status.{Status}
-use Rattle.tap_command.specs.Answers.{AnswersBytes}
-use Rattle.command_line.specs.Printing.{asked_text, Prints}
+use Rattle.job_top.specs.Answers.{AnswersBytes}
+use Rattle.command_words.specs.Printing.{asked_text, Prints}
 
 -- the help or the version was printed, or the command did all that the top call promises
 pub record Performs (healthy : Type 0) (may : ℕ → Type 0) (words : List (List ℕ)) (status : Status)

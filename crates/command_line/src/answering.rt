@@ -4,16 +4,16 @@ ghost use Rattle.input_files.specs.Files.{OpensAll, OpensFirst};
 ghost use Rattle.job_commands.specs.Status.{IsRefusal};
 ghost use Rattle.job_commands.specs.Words.{asked, IfAsks, inputs_of};
 ghost use Rattle.command_line.specs.Performing.{Performs};
-ghost use Rattle.command_line.specs.Printing.{Prints, asked_text};
+ghost use Rattle.command_words.specs.Printing.{Prints, asked_text};
 ghost use Rattle.world_io.specs.World.{Start, WritingFailed};
 
-use crate::{Request, help, read_request, version};
+use command_words::{Request, help, read_request, version};
 use job_commands::Status;
+use job_top::ftmb;
 use output_files::{OutputError, report};
 use plain_text::Text;
 use std::sync::Wait;
 use std::thread::Threads;
-use tap_command::ftmb;
 use var_locks::Gate;
 use world_io::{Clock, World};
 

@@ -1,7 +1,8 @@
 ghost use Rattle.std.specs.Prelude.{◌≡◌, ◌≤◌, ◌⊎◌};
 ghost use Rattle.std.specs.Process.{exit_status};
 
-use crate::{exit_of, read_words, run_words, tell_more};
+use crate::{exit_of, run_words};
+use command_words::{read_words, tell_more};
 use job_commands::{Status, StatusText};
 use std::env;
 use std::io::IsTerminal;

@@ -1,17 +1,19 @@
 ghost use Rattle.std.specs.Prelude.{◌≡◌, ◌≤◌, ◌*◌, ◌⊎◌, ℕ, [], IfOk, IfErr, None, false, length};
 ghost use Rattle.job_commands.specs.Words.{asked};
-ghost use Rattle.command_line.specs.Printing.{asked_text};
-ghost use Rattle.command_line.specs.Watching.{begins_watch};
-ghost use Rattle.tap_command.specs.Split.{AsksForTaps, BeginsWithTap};
+ghost use Rattle.command_words.specs.Printing.{asked_text};
+ghost use Rattle.command_words.specs.Watching.{begins_watch};
+ghost use Rattle.release_taps.specs.Split.{AsksForTaps, BeginsWithTap};
 ghost use Rattle.release_taps.specs.Seats.{AllFresh};
 
-use crate::{asks_watch, one_file, perform, watch_words};
+use crate::perform;
+use command_words::{asks_watch, one_file, watch_words};
 use job_commands::Status;
+use job_top::tapped;
 use plain_text::{NoMemory, Text};
+use release_taps::{Split, split_taps};
 use std::rt::Files;
 use std::sync::Wait;
 use std::thread::Threads;
-use tap_command::{Split, split_taps, tapped};
 use var_locks::Gate;
 use world_io::Clock;
 use world_real::{FileTap, Notice, RealWorld, Silence};

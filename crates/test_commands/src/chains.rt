@@ -3,10 +3,10 @@
 ghost use Rattle.std.specs.Prelude.{◌≡◌, length};
 
 use crate::commands::{add_files, are_same, give_words};
+use job_top::Status;
 use plain_text::NoMemory;
 use std::alloc::Global;
 use std::test::Fail;
-use tap_command::Status;
 use world_io::MemoryWorld;
 
 /// The first box, of two threads.

@@ -2,9 +2,9 @@
 ghost use Rattle.std.specs.Prelude.{◌≡◌, ◌+◌, ◌≤◌, length};
 
 use job_commands::read_live_words;
+use job_top::{Status, serial};
 use plain_text::{Bytes, NoMemory, Sequence, Text};
 use std::alloc::Global;
-use tap_command::{Status, serial};
 use world_io::MemoryWorld;
 
 /// Commands on files, and what they come to.

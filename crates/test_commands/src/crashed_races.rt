@@ -1,9 +1,9 @@
 //! Two threads race over the tables of a NAT, and the master crashes at each event of the race.
 use crate::commands::{Case, Fault, comes_to};
+use job_top::Status;
 use plain_text::{Bytes, NoMemory};
 use std::alloc::Global;
 use std::test::Fail;
-use tap_command::Status;
 
 /// Four outside ports, for two threads.
 const RACE_BOX: &[u8] =

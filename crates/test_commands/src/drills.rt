@@ -3,11 +3,11 @@ ghost use Rattle.std.specs.Prelude.{◌≡◌, length};
 
 use crate::commands::{Case, Fault, add_files, are_same, comes_to, give_words};
 use crate::limits::repeat_behind;
+use job_top::Status;
 use plain_text::{Bytes, Limit, NoMemory};
 use sample_frames::{LITTLE_MICRO, TWO_PACKETS};
 use std::alloc::Global;
 use std::test::Fail;
-use tap_command::Status;
 use world_io::MemoryWorld;
 
 /// The boxes.

@@ -1,10 +1,10 @@
 //! How the program ends where no session can lead it.
-use command_line::{StatusText, read_words};
+use command_words::{StatusText, read_words};
+use job_top::Status;
 use plain_text::{Limit, NoMemory};
 use std::alloc::Global;
 use std::io;
 use std::test::Fail;
-use tap_command::Status;
 
 /// What the program comes to where std gives no arguments, since one of them is not UTF-8.
 fn refusal_of_none(alloc: Global) -> Option<Status> {

@@ -1,10 +1,10 @@
 //! Commands of which a read or a write fails.
 use crate::commands::{Case, Fault, comes_to};
+use job_top::Status;
 use plain_text::NoMemory;
 use sample_frames::{ONE_COUNTED, ONE_PACKET, TWO_PACKETS, WRITTEN_MICRO};
 use std::alloc::Global;
 use std::test::Fail;
-use tap_command::Status;
 
 /// Two threads that count: the second's output waits for an entry of the first, and leaves with it.
 const RUN: Case<'static> = Case {

@@ -3,10 +3,10 @@
 ghost use Rattle.std.specs.Prelude.{◌≡◌, length};
 
 use crate::commands::{Case, Fault, add_files, are_same, comes_to, give_words};
+use job_top::Status;
 use plain_text::{Limit, NoMemory, Text};
 use std::alloc::Global;
 use std::test::Fail;
-use tap_command::Status;
 use world_io::MemoryWorld;
 
 const SCRIPT: &[u8] =

@@ -1,10 +1,10 @@
 //! Inputs at the limits, and scripts of many events.
 use crate::commands::{Case, Fault, comes_to};
+use job_top::{InputFault, Status};
 use plain_text::{Bytes, Limit, LineCause, LineFault, NoMemory};
 use sample_frames::{LITTLE_MICRO, ONE_COUNTED, ONE_PACKET, WRITTEN_MICRO};
 use std::alloc::Global;
 use std::test::Fail;
-use tap_command::{InputFault, Status};
 
 /// The most bytes of a file.
 const MOST: usize = 67_108_864;

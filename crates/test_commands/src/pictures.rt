@@ -2,10 +2,10 @@
 use crate::commands::{Case, Fault, comes_to};
 use crate::large::SETTLED;
 use crate::limits::repeat_behind;
+use job_top::Status;
 use plain_text::Limit;
 use sample_frames::TWO_PACKETS;
 use std::test::Fail;
-use tap_command::Status;
 
 /// A picture of a run with no events, whose last line is this report.
 const EMPTY: Case<'static> = Case {

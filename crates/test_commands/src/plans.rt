@@ -3,13 +3,13 @@ ghost use Rattle.std.specs.Prelude.{◌≡◌, ◌+◌, ◌≤◌, length};
 
 use crate::commands::{add_files, are_same, give_words, texts_of};
 use crate::gates::WaitingGate;
+use job_top::{Status, ftmb};
 use plain_text::{Bytes, Limit, NoMemory, Text};
 use sample_frames::TWO_PACKETS;
 use std::alloc::Global;
 use std::sync::Wait;
 use std::test::Fail;
 use std::thread::Threads;
-use tap_command::{Status, ftmb};
 use var_locks::{Gate, OpenGate};
 use world_io::{FixedClock, MemoryWorld};
 

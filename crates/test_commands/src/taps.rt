@@ -3,14 +3,14 @@ ghost use Rattle.std.specs.Prelude.{◌≡◌, length, IfOk, OnOk};
 ghost use Rattle.release_taps.specs.Recorded.{AreUnused};
 
 use crate::commands::{Fault, add_fault, add_files, texts_of};
+use job_top::{Status, TappedRun, tapped};
 use plain_text::{NoMemory, Text};
-use release_taps::{MemoryTap, Shown, Tap};
+use release_taps::{MOST_TAPS, MemoryTap, Shown, Split, Tap, split_taps};
 use sample_frames::{ONE_COUNTED, ONE_PACKET};
 use std::alloc::Global;
 use std::sync::Wait;
 use std::test::Fail;
 use std::thread::Threads;
-use tap_command::{MOST_TAPS, Split, Status, TappedRun, split_taps, tapped};
 use var_locks::OpenGate;
 use world_io::{FixedClock, MemoryWorld};
 

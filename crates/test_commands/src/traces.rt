@@ -1,10 +1,10 @@
 //! Traces: the table of what became of each packet, and where none is written.
 use crate::commands::{Case, Fault, comes_to};
 use crate::large::SETTLED;
+use job_top::Status;
 use plain_text::Limit;
 use sample_frames::TWO_PACKETS;
 use std::test::Fail;
-use tap_command::Status;
 
 /// A trace of one packet that came in and left.
 const TRACE: Case<'static> = Case {

@@ -1,7 +1,7 @@
 use Rattle.std.proofs.Common.{◌≡◌, ap, sym, ◌∙◌, Some}
-use Rattle.command_line.specs.Printing.{asked_text}
-use Rattle.command_line.specs.Request.{request_of}
-use Rattle.command_line.specs.declared.request.Request.TheVariants.{Command, Help}
+use Rattle.command_words.specs.Printing.{asked_text}
+use Rattle.command_words.specs.Request.{request_of}
+use Rattle.command_words.specs.declared.request.Request.TheVariants.{Command, Help}
 use Rattle.command_line.proofs.NoCommand.{answers_none, any_text, asks_nothing, no_text, printed_refuses}
 use Rattle.command_line.proofs.NoCommand.{prints_nothing}
 use Rattle.command_line.proofs.NoCommand.{prints_text}

@@ -1,0 +1,4 @@
+pub mod Printing
+pub mod Request
+pub mod Watching
+pub mod Words

@@ -1,0 +1,20 @@
+//! The words of the command line, and what is told of them: what they ask for, which two name one file, the texts of
+//! `--help` and `--version`, the packets that are watched, and what stands on standard error where something is not done.
+//!
+//! It stands beside the top call and waits for none of it.
+#![tactic(auto)]
+
+mod names;
+mod request;
+mod telling;
+mod usage;
+mod watching;
+mod words;
+
+pub use job_commands::{Status, StatusText};
+pub use names::one_file;
+pub use request::{Request, read_request};
+pub use telling::tell_more;
+pub use usage::{help, version};
+pub use watching::{asks_watch, watch_words};
+pub use words::read_words;

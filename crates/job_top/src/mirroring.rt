@@ -1,0 +1,123 @@
+ghost use Rattle.std.specs.Prelude.{◌≡◌, ◌<◌, ◌*◌, ◌^◌, ℕ, false, length, IfOk};
+ghost use Rattle.release_taps.specs.Mirrored.{IsMirroring};
+ghost use Rattle.release_taps.specs.Seats.{AllFresh};
+ghost use Rattle.job_top.specs.Answers.{Answers};
+ghost use Rattle.release_taps.specs.Split.{AsksForTaps, behind_pairs, released_name};
+
+use crate::ftmb;
+use job_commands::Status;
+use plain_text::{NoMemory, Text};
+use release_taps::{Seating, Tap, TapWorld, Untapped, mirrored_name, run_line};
+use std::marker::Brand;
+use std::sync::Wait;
+use std::thread::Threads;
+use var_locks::Gate;
+use world_io::{Clock, World};
+
+/// What a tapped run comes to.
+#[derive(Drop)]
+pub struct TappedRun<W, T> {
+    pub status: Status,
+    /// What is left when the taps are taken off.
+    pub rest: Untapped<W, T>,
+}
+
+/// Runs the words over a world whose file of this name is mirrored.
+fn run_mirrored<
+    W: World + Drop,
+    T: Tap,
+    C: Clock + Sync,
+    G: Gate + Sync,
+    R: AllocGlobal + Threads + Wait + Sync,
+    S: Seating,
+>(rt: &R, words: &[Text], world: TapWorld<W, T, S>, clock: &C, gate: &G) -> TappedRun<W, T>
+    requires room { (W.ledger world.world).given < 2 ^ 31 }
+    ensures answers { Answers W.honest W.shows W.ledger W.healthy
+        (C.may clock.now) words.now result.status world.world result.rest.world }
+    ensures mirrors { IsMirroring W.honest W.shows W.ledger T.tells T.seen T.fault_count T.lack_count
+        S.file_name result.rest.mirrored result.rest.world result.rest.seats.items }
+    ensures seats { length result.rest.seats.items ≡ S.seat_count }
+{
+    let mut tapped = world;
+    let status = ftmb(rt, words, &mut tapped, clock, gate);
+    TappedRun {
+        status,
+        rest: tapped.part(),
+    }
+}
+
+/// Seats the taps on the file of this name, and runs the words.
+fn seat_and_run<
+    W: World + Drop,
+    T: Tap,
+    C: Clock + Sync,
+    G: Gate + Sync,
+    R: AllocGlobal + Threads + Wait + Sync,
+    S: Seating,
+>(
+    rt: &R,
+    words: &[Text],
+    world: W,
+    name: Text,
+    taps: Vec<T>,
+    clock: &C,
+    gate: &G,
+) -> Result<TappedRun<W, T>, NoMemory>
+    requires room { (W.ledger world).given < 2 ^ 31 }
+    requires new_world { (file : ℕ) → (W.ledger world).created file ≡ false }
+    requires fresh { AllFresh T.tells T.seen T.fault_count T.lack_count taps.items }
+    requires name { name ≡ S.file_name }
+    requires count { length taps.items ≡ S.seat_count }
+    ensures answers { IfOk result (λ run. Answers W.honest W.shows W.ledger W.healthy
+        (C.may clock.now) words.now run.status world run.rest.world) }
+    ensures mirrors { IfOk result (λ run. IsMirroring W.honest W.shows W.ledger
+        T.tells T.seen T.fault_count T.lack_count
+        S.file_name run.rest.mirrored run.rest.world run.rest.seats.items) }
+    ensures seats { IfOk result (λ run. length run.rest.seats.items ≡ S.seat_count) }
+{
+    let tapped = TapWorld::<W, T, S>::new(rt.alloc(), world, name, taps)?;
+    Ok(run_mirrored(rt, words, tapped, clock, gate))
+}
+
+/// Runs what stands behind the pairs `tap NAME`, and shows each tap the bytes that the released
+/// capture took.
+///
+/// A tap that fails is shown nothing more, keeps its seat, and changes nothing for the command: its
+/// status and its files are those that `ftmb` promises of the words behind the pairs. The world has
+/// created no file before. After want of memory, world and taps are gone, and nothing was done.
+pub fn tapped<
+    W: World + Drop,
+    T: Tap,
+    C: Clock + Sync,
+    G: Gate + Sync,
+    R: AllocGlobal + Threads + Wait + Sync,
+>(
+    rt: &R,
+    words: &[Text],
+    world: W,
+    taps: Vec<T>,
+    clock: &C,
+    gate: &G,
+) -> Result<TappedRun<W, T>, NoMemory>
+    requires asks { AsksForTaps words.now (length taps.items) }
+    requires room { (W.ledger world).given < 2 ^ 31 }
+    requires new_world { (file : ℕ) → (W.ledger world).created file ≡ false }
+    requires fresh { AllFresh T.tells T.seen T.fault_count T.lack_count taps.items }
+
+    // All that the top call promises of the words behind the pairs.
+    ensures answers { IfOk result (λ run. Answers W.honest W.shows W.ledger W.healthy
+        (C.may clock.now) (behind_pairs (length taps.items) words.now)
+        run.status world run.rest.world) }
+
+    // Each tap in its seat has seen what the released capture took, or a first part of it and has
+    // counted why no more.
+    ensures mirrors { IfOk result (λ run. IsMirroring W.honest W.shows W.ledger
+        T.tells T.seen T.fault_count T.lack_count (released_name (length taps.items) words.now)
+        run.rest.mirrored run.rest.world run.rest.seats.items) }
+    ensures seats { IfOk result (λ run. length run.rest.seats.items ≡ length taps.items) }
+{
+    let pairs = taps.len();
+    let name = Text::of(rt.alloc(), mirrored_name(words, pairs).as_str())?;
+    let line = run_line(words, pairs);
+    seat_and_run::<W, T, C, G, R, Brand>(rt, line, world, name, taps, clock, gate)
+}

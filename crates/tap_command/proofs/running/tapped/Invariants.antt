@@ -1,5 +1,0 @@
-use Rattle.std.proofs.Common.{length}
-use Rattle.tap_command.proofs.running.tapped.Given as goal
-
-abbrev pub ghosts-seat_and_run : goal.ghosts-seat_and_run
-ghosts-seat_and_run g a = record { file_name = a.name; seat_count = length a.taps.items }

@@ -1,2 +1,0 @@
-pub use Rattle.job_top.specs.Answers
-pub mod Split
