@@ -21,7 +21,7 @@ build/ftmb: $(SOURCES)
 build/bench: $(SOURCES)
 	scripts/build $(RT) bench
 
-# The example at once, by the kit's unproved run: nothing is proved.
+# The example by the kit's unproved run, in two to three minutes each time: nothing is proved.
 try:
 	scripts/try $(RT) build/try
 
