@@ -8,6 +8,8 @@ mod blocks;
 #[cfg(test)]
 mod checksums;
 #[cfg(test)]
+mod generated;
+#[cfg(test)]
 mod inputs;
 #[cfg(test)]
 mod parts;
