@@ -1,3 +1,4 @@
+use chain_text::read_chain;
 use plain_text::NoMemory;
 use script_text::{Event, Kind, auto_event, put_event, read_script};
 use std::alloc::Global;
@@ -161,6 +162,20 @@ fn reads_and_writes_scripts(rt: HostRuntime) -> Result<(), Fail> {
         assert!(rt; comes_to(rt.alloc(), text, wanted)?, "at {text:?}");
     }
     Ok(())
+}
+
+/// How many events the script of a chain has, if it is one.
+fn count_in_chain(alloc: Global, text: &[u8]) -> Option<usize> {
+    match read_chain(alloc, text) {
+        Ok(events) => Some(events.len()),
+        Err(_) => None,
+    }
+}
+
+#[test]
+fn reads_scripts_of_chains(rt: HostRuntime) {
+    assert!(rt; count_in_chain(rt.alloc(), b"1 settle\n2 settle\n") == Some(2));
+    assert!(rt; count_in_chain(rt.alloc(), b"1 settle\n3 settle\n").is_none());
 }
 
 /// Texts, and how many events each has or what is wrong with it.
