@@ -1,4 +1,5 @@
-//! The program. Its stored run is the example: the counting box on one packet.
+//! The program. Its stored run is refused, for a bad box file, and ends with status 6. Those that end well are sessions of
+//! `ftmb_runs`.
 #![tactic(auto)]
 
 use command_line::run_program;

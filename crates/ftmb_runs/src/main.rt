@@ -4,8 +4,10 @@
 //! The arguments name the sessions. A session is a text. Each of its lines is printed, and below it what it leads to:
 //! - `$ ftmb WORDS`: the command, performed as the program performs it; its report, and how the program ends.
 //! - `write NAME: LINES`: a file is written; a semicolon stands for the end of a line.
+//! - `hex NAME: PARTS`: a file is written of parts, one after the other: hexadecimal digits, or `@` and another file's name.
 //! - `text NAME`: the lines of a file, a semicolon behind each.
 //! - `bytes NAME`: the bytes of a file, in hexadecimal digits, 16 on a line.
+//! - `same NAME NAME ..`: whether these files have the same bytes, or the first one that has others.
 //!
 //! All other lines are for whoever reads the session.
 #![tactic(auto)]
@@ -59,6 +61,39 @@ fn write<R: AllocGlobal + Files + Print>(rt: &R, file: &str) -> io::Result<()> {
     fs::write(rt, name, bytes)
 }
 
+/// The bytes of a part of a file: those of the file whose name stands after `@`, or those that digits stand for.
+fn part_of<R: AllocGlobal + Files>(rt: &R, part: &str) -> io::Result<Vec<u8>> {
+    match part.strip_prefix('@') {
+        Some(name) => fs::read(rt, name),
+        None => match hex::decode(rt.alloc(), part) {
+            Ok(bytes) => Ok(bytes),
+            Err(_) => Err(io::Error::from(io::ErrorKind::InvalidData)),
+        },
+    }
+}
+
+/// Writes a file of parts: its name, and after a colon the parts.
+fn write_parts<R: AllocGlobal + Files>(rt: &R, file: &str) -> io::Result<()> {
+    let (name, parts) = file.split_once(':').unwrap_or((file, ""));
+    let mut bytes = Vec::new(rt.alloc());
+    for part in parts.split_whitespace() {
+        bytes.extend_from_slice(part_of(rt, part)?.as_slice())?;
+    }
+    fs::write(rt, name, bytes)
+}
+
+/// Prints whether files have the same bytes.
+fn compare<R: AllocGlobal + Files + Print>(rt: &R, names: &str) -> io::Result<()> {
+    let mut names = names.split_whitespace();
+    let first = fs::read(rt, names.next().unwrap_or(""))?;
+    for name in names {
+        if fs::read(rt, name)? != first {
+            return println!(rt; "no: {name}");
+        }
+    }
+    println!(rt; "yes")
+}
+
 /// Prints the lines of a file.
 fn show_text<R: AllocGlobal + Files + Print>(rt: &R, name: &str) -> io::Result<()> {
     let Ok(text) = fs::read_to_string(rt, name) else {
@@ -90,8 +125,10 @@ fn perform<R: AllocGlobal + Files + Print + Threads + Wait + Sync>(
     match line.split_once(' ') {
         Some(("$", words)) => run(rt, words),
         Some(("write", file)) => write(rt, file),
+        Some(("hex", file)) => write_parts(rt, file),
         Some(("text", name)) => show_text(rt, name),
         Some(("bytes", name)) => show_bytes(rt, name),
+        Some(("same", names)) => compare(rt, names),
         _ => Ok(()),
     }
 }

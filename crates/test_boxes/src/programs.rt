@@ -94,11 +94,6 @@ fn goes_well<P: Program<Value = u64>>(
     Ok(sent && copy_shown(alloc, program, value)?.as_str() == text)
 }
 
-/// Whether a program has one variable, which is 0 at first.
-fn has_one_variable<P: Program<Value = u64>>(alloc: Global, program: &P) -> Result<bool, NoMemory> {
-    Ok(program.vars() == 1 && program.fresh(alloc, 0)? == 0)
-}
-
 /// Packets that count.
 const COUNTED: [Row; 4] = [
     (42, "4328719365", b"\x09\x09\x02\x03\x04\x05\x09"),
@@ -107,17 +102,6 @@ const COUNTED: [Row; 4] = [
     (5, "4328719365", b"\x09\x09\x09\x09\x09"),
 ];
 
-#[test]
-fn counts_packets(rt: HostRuntime) -> Result<(), Fail> {
-    let program = CountBox::new();
-    assert!(rt; has_one_variable(rt.alloc(), &program)?);
-    for row in &COUNTED {
-        let right = goes_well(rt.alloc(), &program, row)?;
-        assert!(rt; right, "{} bytes", row.0);
-    }
-    Ok(())
-}
-
 /// Packets that count, if their length is even, or read.
 const PEEKED: [Row; 3] = [
     (42, "4328719365", b"\x09\x09\x02\x03\x04\x05\x09"),
@@ -125,13 +109,26 @@ const PEEKED: [Row; 3] = [
     (5, "4328719364", b"\x09\x09\x09\x09\x09"),
 ];
 
-#[test]
-fn shows_the_number_to_packets_of_odd_length(rt: HostRuntime) -> Result<(), Fail> {
-    let program = PeekBox::new();
-    assert!(rt; has_one_variable(rt.alloc(), &program)?);
-    for row in &PEEKED {
-        let right = goes_well(rt.alloc(), &program, row)?;
-        assert!(rt; right, "{} bytes", row.0);
+/// Whether a program has one variable, which is 0 at first, and packets go out so.
+fn all_go_well<P: Program<Value = u64>>(
+    alloc: Global,
+    program: &P,
+    rows: &[Row],
+) -> Result<bool, NoMemory>
+    requires { (n : ℕ) → n < 2 ^ 64 → (var : ℕ) → P.fits program.now var n }
+{
+    for row in rows {
+        if !goes_well(alloc, program, row)? {
+            return Ok(false);
+        }
     }
+    Ok(program.vars() == 1 && program.fresh(alloc, 0)? == 0)
+}
+
+/// The one box shows the number to each packet, the other to packets of odd length without counting them.
+#[test]
+fn packets_are_counted_and_shown_the_number(rt: HostRuntime) -> Result<(), Fail> {
+    assert!(rt; all_go_well(rt.alloc(), &CountBox::new(), &COUNTED)?);
+    assert!(rt; all_go_well(rt.alloc(), &PeekBox::new(), &PEEKED)?);
     Ok(())
 }

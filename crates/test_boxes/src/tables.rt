@@ -1,6 +1,6 @@
 ghost use Rattle.std.specs.Prelude.{◌≤◌};
 
-use nat_tables::{Bind, BoundPort, Endpoint, Find, Forward, Freed, Pool, Reverse, Segment};
+use nat_tables::{BoundPort, Endpoint, Find, Forward, Freed, Reverse, Segment};
 use plain_text::NoMemory;
 use std::alloc::Global;
 use std::test::Fail;
@@ -12,59 +12,6 @@ fn endpoint(protocol: u8, port: u16) -> Endpoint {
         address: 0x0a00_0005,
         port,
     }
-}
-
-/// Whether a port of the wanted parity is taken first, and one that is given back is free again.
-fn takes_ports(pool: &mut Pool) -> bool {
-    let even = pool.reserve(17, 5000, 3);
-    let next = pool.reserve(17, 5000, 3);
-    let odd = pool.reserve(17, 5000, 0);
-    pool.give_back(17, 12);
-    (even, next, odd) == (Some(12), Some(10), Some(11)) && pool.free(17) == 2
-}
-
-/// Whether the ports are shown so.
-fn shows_ports(alloc: Global, pool: &Pool, text: &str) -> Result<bool, NoMemory> {
-    Ok(pool.text(alloc)?.as_str() == text)
-}
-
-/// Whether ports are taken, given back and shown.
-fn has_ports(alloc: Global) -> Result<bool, NoMemory> {
-    let mut pool = Pool::new(alloc, 10, 13)?;
-    Ok(takes_ports(&mut pool) && shows_ports(alloc, &pool, "tcp 4 udp 2")?)
-}
-
-/// Whether an endpoint is bound once, and where it is idle its mapping makes room for another endpoint, of the other
-/// protocol.
-fn binds(table: &mut Forward) -> Result<bool, NoMemory> {
-    let (first, second) = (endpoint(17, 5000), endpoint(6, 5000));
-    let bound = table.find_or_bind(&first, 10, 1)?;
-    let other = table.find_or_bind(&first, 12, 2)?;
-    let lives = table.lives(&first, 10, 300_000_001);
-    let found = table.find(&second, 300_000_002);
-    table.find_or_bind(&second, 11, 300_000_003)?;
-    let freed = Freed {
-        protocol: 17,
-        port: 10,
-    };
-    Ok(
-        bound == Bind::Bound
-            && other == Bind::Other(10)
-            && lives
-            && found == Find::Absent(Some(freed)),
-    )
-}
-
-/// Whether the table has one mapping, which is shown so.
-fn shows_mapping(alloc: Global, table: &Forward, text: &str) -> Result<bool, NoMemory> {
-    let alone = table.len() == 1 && table.entry(1).is_none();
-    Ok(alone && table.text(alloc)?.as_str() == text)
-}
-
-/// Whether endpoints are bound and shown.
-fn has_mappings(alloc: Global) -> Result<bool, NoMemory> {
-    let mut table = Forward::new(alloc);
-    Ok(binds(&mut table)? && shows_mapping(alloc, &table, "tcp 10.0.0.5:5000 11 300000003")?)
 }
 
 /// Binds 200 endpoints after one of TCP, and 200 others when they are idle. Answers whether each of those made room,
@@ -137,32 +84,6 @@ fn keeps(alloc: Global, segments: &[Segment], time: u64) -> Result<bool, NoMemor
     Ok(is_kept_for(followed(alloc, segments)?, time))
 }
 
-/// Binds a port of each protocol, and that of UDP again.
-fn bind_ports(table: &mut Reverse) -> Result<(), NoMemory> {
-    table.bind(17, 10, &endpoint(17, 1))?;
-    table.bind(6, 10, &endpoint(6, 2))?;
-    table.bind(17, 10, &endpoint(17, 3))
-}
-
-/// Whether the table is shown so.
-fn shows_bound(alloc: Global, table: &Reverse, text: &str) -> Result<bool, NoMemory> {
-    Ok(table.text(alloc)?.as_str() == text)
-}
-
-/// Whether a port that is unbound is gone, and the other one stays.
-fn unbinds(table: &mut Reverse) -> bool {
-    table.unbind(17, 10);
-    table.len() == 1 && table.find(17, 10).is_none() && table.find(6, 10) == Some(endpoint(6, 2))
-}
-
-/// Whether a port that is bound again keeps its place, until it is unbound.
-fn has_bound_ports(alloc: Global) -> Result<bool, NoMemory> {
-    let mut table = Reverse::new(alloc);
-    bind_ports(&mut table)?;
-    let shown = shows_bound(alloc, &table, "udp 10 10.0.0.5:3; tcp 10 10.0.0.5:2")?;
-    Ok(unbinds(&mut table) && shown)
-}
-
 /// The bound port of this number, of UDP.
 fn bound_port(port: u16) -> BoundPort {
     BoundPort {
@@ -187,14 +108,6 @@ fn keeps_order(alloc: Global) -> Result<bool, NoMemory> {
             && table.entry(99) == Some(bound_port(399))
             && table.entry(100).is_none(),
     )
-}
-
-#[test]
-fn tables_find_what_was_put_in(rt: HostRuntime) -> Result<(), Fail> {
-    assert!(rt; has_ports(rt.alloc())?);
-    assert!(rt; has_mappings(rt.alloc())?);
-    assert!(rt; has_bound_ports(rt.alloc())?);
-    Ok(())
 }
 
 /// 240 seconds, and 7,440 seconds.

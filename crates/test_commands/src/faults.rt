@@ -215,30 +215,3 @@ fn names_a_write_that_failed(rt: HostRuntime) -> Result<(), Fail> {
     }
     Ok(())
 }
-
-/// A capture that is not there cannot be read, and then nothing is created.
-#[test]
-fn reads_no_capture_that_is_not_there(rt: HostRuntime) -> Result<(), Fail> {
-    let case = Case {
-        files: &[("box", b"box count"), ("script", b"settle")],
-        status: Status::ReadFault,
-        left: &[("out", None), ("moves", None)],
-        report: b"",
-        ..RUN
-    };
-    assert!(rt; comes_to(rt.alloc(), Fault::Nothing, &case)?);
-    Ok(())
-}
-
-/// An empty word is no number.
-#[test]
-fn refuses_an_empty_word(rt: HostRuntime) -> Result<(), Fail> {
-    let case = Case {
-        commands: &[&["make", "7", "", "c"]],
-        status: Status::BadWords,
-        left: &[("c", None)],
-        ..MAKE
-    };
-    assert!(rt; comes_to(rt.alloc(), Fault::Nothing, &case)?);
-    Ok(())
-}

@@ -1,25 +1,19 @@
 //! Tests of the commands over the world in memory, of what no stored session of the program can do: reads and writes
-//! that fail, files at the limits of their size, a crash at each event of a race, large runs from a number, drills,
-//! chains and handovers beside the runs that they are, traces, pictures, and threads that race and wait for one
-//! another. They stand apart from `job_top`, so that it is proved once and not again with its tests.
+//! that fail, files at the limits of their size, a crash at each event of a race, large runs from a number, runs that are
+//! too large for a picture or a trace, taps that fail, and threads that race and wait for one another. They stand apart
+//! from `job_top`, so that it is proved once and not again with its tests.
 #![tactic(auto)]
 
-#[cfg(test)]
-mod chains;
 #[cfg(test)]
 mod commands;
 #[cfg(test)]
 mod crashed_races;
-#[cfg(test)]
-mod drills;
 #[cfg(test)]
 mod endings;
 #[cfg(test)]
 mod faults;
 #[cfg(test)]
 mod gates;
-#[cfg(test)]
-mod handovers;
 #[cfg(test)]
 mod large;
 #[cfg(test)]
@@ -30,5 +24,3 @@ mod pictures;
 mod plans;
 #[cfg(test)]
 mod taps;
-#[cfg(test)]
-mod traces;

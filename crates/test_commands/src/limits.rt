@@ -131,6 +131,20 @@ fn refuses_many(
     refuses(alloc, name, bytes.as_slice(), Status::TooLarge(limit))
 }
 
+/// Whether a drill of 65,537 packets passes the limit of packets, and nothing is created.
+fn drill_stops_at_packets(alloc: Global) -> Result<bool, NoMemory> {
+    let capture = repeat_behind(alloc, LITTLE_MICRO, &[0; 16], 65_537)?;
+    let case = Case {
+        files: &[("box", b"box count"), ("in", capture.as_slice())],
+        status: Status::TooLarge(Limit::Packets),
+        left: &[("out", None), ("moves", None)],
+        report: b"",
+        commands: &[&["drill", "box", "in", "1", "out", "moves"]],
+        is_whole_report: true,
+    };
+    comes_to(alloc, Fault::Nothing, &case)
+}
+
 #[test]
 fn stops_at_limits(rt: HostRuntime) -> Result<(), Fail> {
     let alloc = rt.alloc();
@@ -138,6 +152,7 @@ fn stops_at_limits(rt: HostRuntime) -> Result<(), Fail> {
     assert!(rt; refuses_many(alloc, "script", b"", events, Limit::Events)?);
     let packets: (&[u8], u32) = (&[0; 16], 65_537);
     assert!(rt; refuses_many(alloc, "in", LITTLE_MICRO, packets, Limit::Packets)?);
+    assert!(rt; drill_stops_at_packets(alloc)?);
     assert!(rt; refuses_large_records(alloc, 256)?);
     Ok(())
 }

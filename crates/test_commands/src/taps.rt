@@ -2,10 +2,10 @@
 ghost use Rattle.std.specs.Prelude.{◌≡◌, length, IfOk, OnOk};
 ghost use Rattle.release_taps.specs.Recorded.{AreUnused};
 
-use crate::commands::{Fault, add_fault, add_files, texts_of};
+use crate::commands::{Fault, add_fault, add_files};
 use job_top::{Status, TappedRun, tapped};
 use plain_text::{NoMemory, Text};
-use release_taps::{MOST_TAPS, MemoryTap, Shown, Split, Tap, split_taps};
+use release_taps::{MemoryTap, Shown, Split, Tap, split_taps};
 use sample_frames::{ONE_COUNTED, ONE_PACKET};
 use std::alloc::Global;
 use std::sync::Wait;
@@ -123,50 +123,5 @@ fn what_is_not_written_is_not_shown(rt: HostRuntime) -> Result<(), Fail> {
     };
     assert!(rt; run.status == Status::WriteFault);
     assert!(rt; has_seen(&run, 0, b"", Shown::Took));
-    Ok(())
-}
-
-/// The first of 64 taps that was not shown all.
-fn first_wrong(run: &Run) -> Option<usize> {
-    for place in 0..MOST_TAPS {
-        if !has_seen(run, place, ONE_COUNTED, Shown::Took) {
-            return Some(place);
-        }
-    }
-    None
-}
-
-#[test]
-fn all_of_64_taps_are_shown_the_same(rt: HostRuntime) -> Result<(), Fail> {
-    let run = run_with_taps(&rt, Fault::Nothing, &[None; MOST_TAPS])?;
-    let Some(run) = run else {
-        panic!(rt; "no taps");
-    };
-    assert_eq!(rt; first_wrong(&run), None);
-    Ok(())
-}
-
-/// What words say of taps.
-fn split(alloc: Global, words: &[&str]) -> Result<Split, NoMemory> {
-    Ok(split_taps(texts_of(alloc, words)?.as_slice()))
-}
-
-#[test]
-fn words_ask_for_taps(rt: HostRuntime) -> Result<(), Fail> {
-    let alloc = rt.alloc();
-    let one = split(alloc, &["tap", "t", "run", "b", "c", "s", "r", "m"])?;
-    assert!(rt; one == Split::Taps { pairs: 1, name: 6 });
-    assert!(rt; split(alloc, RUN)? == Split::Plain);
-    assert!(rt; split(alloc, &["tap", "r", "run", "b", "c", "s", "r", "m"])? == Split::Bad);
-    assert!(rt;
-        split(
-            alloc,
-            &["tap", "t", "tap", "t", "run", "b", "c", "s", "r", "m"]
-        )? == Split::Bad
-    );
-    assert!(rt; split(alloc, &["tap", "t", "play", "b", "c", "s", "o"])? == Split::Bad);
-    assert!(rt; split(alloc, &["tap", "t"])? == Split::Bad);
-    let many = tapped_words(alloc, MOST_TAPS + 1)?;
-    assert!(rt; split_taps(many.as_slice()) == Split::Bad);
     Ok(())
 }

@@ -1,6 +1,6 @@
-//! Tests of the crates on which all others stand: texts and numbers, the world in memory, checksums, headers, packets
-//! made from a number, and the packets that came in; libpcap savefiles and pcapng, read whole and with faults; and
-//! packets that were released, matched with what was sent out. It has no function that another crate may call.
+//! Tests of the crates on which all others stand, of what no stored session of the program can do: reads and writes that
+//! fail, the limit of packets, large sequences, files of the system, and the checksums that were published. It has no
+//! function that another crate may call.
 #![tactic(auto)]
 
 #[cfg(test)]
@@ -8,17 +8,13 @@ mod blocks;
 #[cfg(test)]
 mod checksums;
 #[cfg(test)]
-mod flow_texts;
-#[cfg(test)]
 mod generated;
-#[cfg(test)]
-mod headers;
 #[cfg(test)]
 mod inputs;
 #[cfg(test)]
-mod matches;
-#[cfg(test)]
 mod parts;
+#[cfg(test)]
+mod real_worlds;
 #[cfg(test)]
 mod savefiles;
 #[cfg(test)]

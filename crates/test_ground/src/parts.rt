@@ -14,12 +14,3 @@ pub fn joined(alloc: Global, parts: &[&[u8]]) -> Result<Bytes, NoMemory> {
     extend(&mut bytes, parts)?;
     Ok(bytes)
 }
-
-/// The bytes, with the one at this place changed.
-pub fn with_byte(alloc: Global, bytes: &[u8], place: usize, byte: u8) -> Result<Vec<u8>, NoMemory> {
-    let mut changed = Bytes::of(alloc, bytes)?.into_vec();
-    if place < changed.len() {
-        changed[place] = byte;
-    }
-    Ok(changed)
-}

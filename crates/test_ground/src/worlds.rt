@@ -1,5 +1,4 @@
-ghost use Rattle.std.specs.Prelude.{◌≡◌, ◌<◌, IsTrue, List, ℕ, length, vec_len};
-ghost use Rattle.world_io.specs.World.{is_writable};
+ghost use Rattle.std.specs.Prelude.{◌≡◌, ◌<◌, length};
 
 use plain_text::{Bytes, NoMemory, Text};
 use std::alloc::Global;
@@ -7,7 +6,6 @@ use world_io::{
     BufferedSource, Filled, Front, FrontError, MemoryWorld, OpenFault, SliceSource, Source, World,
     WorldSink, WorldSource, WriteError, read_front, write_all,
 };
-use world_told::Told;
 
 /// The bytes of a slice, and how often they were asked for.
 #[derive(Drop)]
@@ -43,22 +41,6 @@ impl<'a> Source for Counting<'a> {
         self.calls = self.calls.wrapping_add(1);
         self.below.fill(piece)
     }
-}
-
-/// Reads what is left of a source that is lent, through a buffer: what was taken is known of the
-/// source.
-fn read_through<S: Source>(
-    alloc: Global,
-    source: &mut S,
-    buffer: Vec<u8>,
-) -> Result<Front, FrontError>
-    requires { 0 < vec_len buffer }
-    ensures { (taken : List ℕ) × S.reads source.old taken source.new }
-{
-    let mut buffered = BufferedSource::of(source, buffer);
-    let front = read_front(alloc, &mut buffered, 1_000);
-    let _below = buffered.into_inner();
-    front
 }
 
 /// The first bytes of a name, up to a limit.
@@ -188,55 +170,6 @@ fn fails_where_writing_is_told_to(rt: HostRuntime) {
     }
 }
 
-/// Whether "hello" is read of a name through a told world.
-fn told_begins_in(alloc: Global, world: MemoryWorld, name: &Text) -> bool
-    requires { length world.files ≡ 0 }
-{
-    let mut told = Told::of(world);
-    let front = read_front_of(alloc, &mut told, name, 10);
-    is_front(front, Some(("hello", true)))
-}
-
-/// Whether it is of "in" in a world of its own.
-fn told_begins(alloc: Global) -> Result<bool, NoMemory> {
-    let mut world = MemoryWorld::new(alloc)?;
-    let name = add_hello(alloc, &mut world)?;
-    Ok(told_begins_in(alloc, world, &name))
-}
-
-/// How many bytes "out" has in the world below after it was written through a told one.
-fn told_length(alloc: Global) -> Result<Option<usize>, NoMemory> {
-    let name = Text::of(alloc, "out")?;
-    let mut told = Told::of(MemoryWorld::new(alloc)?);
-    let _ = write_name(&mut told, &name, b"bye");
-    let below = told.into_inner();
-    Ok(below.bytes(&name).map(|bytes| bytes.len()))
-}
-
-#[test]
-fn a_told_world_passes_its_calls_on(rt: HostRuntime) {
-    assert!(rt; matches!(told_begins(rt.alloc()), Ok(true)));
-    assert!(rt; matches!(told_length(rt.alloc()), Ok(Some(3))));
-}
-
-/// Whether bytes can be written to the report.
-fn writes_report<W: World>(world: &mut W, bytes: &[u8]) -> bool
-    requires { IsTrue (is_writable (W.ledger world.old) 0) }
-{
-    matches!(write_all(&mut WorldSink::of(world, 0), bytes), Ok(()))
-}
-
-/// Whether the report of a new world is what is written to it.
-fn reports(alloc: Global) -> Result<bool, NoMemory> {
-    let mut world = MemoryWorld::new(alloc)?;
-    Ok(writes_report(&mut world, b"done") && world.report() == b"done".as_slice())
-}
-
-#[test]
-fn writes_the_report(rt: HostRuntime) {
-    assert!(rt; matches!(reports(rt.alloc()), Ok(true)));
-}
-
 /// How many bytes a source gives in pieces of 16, up to its end.
 fn count_bytes<S: Source>(source: &mut S) -> u64 {
     let mut piece = [0u8; 16];
@@ -266,16 +199,4 @@ fn take_through(alloc: Global, bytes: &[u8]) -> Result<(u64, u64), NoMemory> {
 #[test]
 fn asks_for_large_pieces(rt: HostRuntime) {
     assert!(rt; matches!(take_through(rt.alloc(), &[7u8; 1_000]), Ok((1_000, 5))));
-}
-
-/// Whether 1,000 bytes are read through a buffer of 64 bytes.
-fn reads_all(alloc: Global) -> Result<bool, NoMemory> {
-    let buffer = vec![in alloc; 0u8; 64]?;
-    let read = read_through(alloc, &mut SliceSource::of(&[7u8; 1_000]), buffer);
-    Ok(matches!(read, Ok(Front::All(_))))
-}
-
-#[test]
-fn reads_all_through_a_buffer(rt: HostRuntime) {
-    assert!(rt; matches!(reads_all(rt.alloc()), Ok(true)));
 }

@@ -4,6 +4,7 @@ ghost use Rattle.wire_frames.specs.Writing.{CanPutEntry, CanPutOutput};
 use access_log::{Output, StampedEntry, What};
 use plain_text::{Bytes, NoMemory, Packet};
 use std::alloc::{AllocError, Global};
+use std::test::Fail;
 use thread_clock::Stamp;
 use wire_frames::{
     Frame, FrameError, FrameFault, entry_length, output_length, put_entry, put_output, take_frame,
@@ -43,7 +44,7 @@ const OUTPUT: &[u8] = &[
 ];
 
 /// A stamp of one thread.
-pub(crate) fn one_component(first: u32) -> Stamp
+fn one_component(first: u32) -> Stamp
     ensures { (u : ℕ) → 1 ≤ u → slice_index result u ≡ 0 }
 {
     let mut components = [0; 16];
@@ -110,13 +111,12 @@ fn touch_is_written(alloc: Global) -> Result<bool, NoMemory> {
     Ok(put_entry(alloc, 1, 1, &touch())?.as_slice() == TOUCH)
 }
 
-#[test]
-fn a_touch_is_written_and_read(rt: HostRuntime) {
+/// Whether the touch has a frame of 47 bytes, which is read in both versions.
+fn touch_is_read(alloc: Global) -> bool {
     let entry = touch();
-    assert!(rt; matches!(touch_is_written(rt.alloc()), Ok(true)));
-    assert!(rt; entry_length(&entry) == 47);
-    assert!(rt; is_entry(rt.alloc(), TOUCH, 1, &entry));
-    assert!(rt; is_entry(rt.alloc(), OLD_TOUCH, 1, &entry));
+    entry_length(&entry) == 47
+        && is_entry(alloc, TOUCH, 1, &entry)
+        && is_entry(alloc, OLD_TOUCH, 1, &entry)
 }
 
 /// An output whose packet has three captured bytes.
@@ -183,12 +183,6 @@ fn output_is_read(alloc: Global) -> Result<bool, NoMemory> {
     )
 }
 
-#[test]
-fn an_output_is_written_and_read(rt: HostRuntime) {
-    assert!(rt; matches!(output_is_written(rt.alloc()), Ok(true)));
-    assert!(rt; matches!(output_is_read(rt.alloc()), Ok(true)));
-}
-
 /// What an entry may be of, and the code of each.
 const KINDS: [(What, u8); 4] = [
     (What::Access { var: 255, place: 3 }, 1),
@@ -211,8 +205,8 @@ fn is_kind(alloc: Global, entry: &StampedEntry, code: u8) -> Result<bool, NoMemo
     Ok(has_code(bytes, code) && is_entry(alloc, bytes, 3, entry))
 }
 
-#[test]
-fn each_kind_of_entry_is_written_and_read(rt: HostRuntime) {
+/// Whether entries of all kinds are.
+fn are_kinds(alloc: Global) -> Result<bool, NoMemory> {
     for (what, code) in &KINDS {
         let entry = StampedEntry {
             thread: 2,
@@ -220,9 +214,20 @@ fn each_kind_of_entry_is_written_and_read(rt: HostRuntime) {
             what: *what,
             stamp: three_components(0, 4, 7),
         };
-        let is_kind = matches!(is_kind(rt.alloc(), &entry, *code), Ok(true));
-        assert!(rt; is_kind, "code {code}");
+        if !is_kind(alloc, &entry, *code)? {
+            return Ok(false);
+        }
     }
+    Ok(true)
+}
+
+#[test]
+fn frames_are_written_and_read(rt: HostRuntime) -> Result<(), Fail> {
+    let alloc = rt.alloc();
+    assert!(rt; touch_is_written(alloc)? && touch_is_read(alloc));
+    assert!(rt; output_is_written(alloc)? && output_is_read(alloc)?);
+    assert!(rt; are_kinds(alloc)?);
+    Ok(())
 }
 
 /// A frame, a place in it, another byte there, and the fault that is told then, if there is one.
@@ -289,5 +294,18 @@ fn the_first_test_that_fails_answers(rt: HostRuntime) {
     for (frame, place, byte, fault) in &CHANGED {
         let answer = faults(rt.alloc(), frame, *place, *byte, *fault);
         assert!(rt; matches!(answer, Ok(true)), "byte {place} is {byte}");
+    }
+}
+
+/// Whether this many of the first bytes of a frame are one that is cut.
+fn is_cut(alloc: Global, frame: &[u8], length: usize) -> bool {
+    length < frame.len()
+        && fault_of(alloc, &frame[..length]) == Some(FrameError::Fault(FrameFault::Short))
+}
+
+#[test]
+fn each_first_part_of_a_frame_is_short(rt: HostRuntime) {
+    for length in 0..OLD_TOUCH.len() {
+        assert!(rt; is_cut(rt.alloc(), OLD_TOUCH, length), "{length} bytes");
     }
 }

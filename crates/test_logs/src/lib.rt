@@ -1,27 +1,15 @@
-//! Tests of logs and of what stands on them: the order of log entries by its definitions, stamps, what a held set
-//! answers and what a master tells of its moves; snapshots; frames as bytes, the frames on the links, the numbers that
-//! were released, and the output logger. They stand apart, so that what they test is proved once.
+//! Tests of logs and of what stands on them, of what no stored session of the program can do: stamps, frames as bytes,
+//! snapshots of values that can't be copied, and what may be handed to another thread. They stand apart, so that what
+//! they test is proved once.
 #![tactic(auto)]
 
 #[cfg(test)]
-mod frame_parts;
-#[cfg(test)]
 mod frames;
 #[cfg(test)]
-mod held;
-#[cfg(test)]
-mod links;
-#[cfg(test)]
-mod logger;
-#[cfg(test)]
-mod master;
-#[cfg(test)]
-mod orders;
-#[cfg(test)]
 mod pinned;
-#[cfg(test)]
-mod released;
 #[cfg(test)]
 mod snapshots;
 #[cfg(test)]
 mod stamps;
+#[cfg(test)]
+mod threads;

@@ -3,11 +3,10 @@ ghost use Rattle.box_program.specs.Count.{IsCounter};
 ghost use Rattle.test_logs.specs.Pinned.{pinned_meaning};
 ghost use Rattle.test_logs.specs.Scene.{HasMaster, HasStored};
 
-use crate::master::packet;
 use crate::pinned::{PINNED_BOX, PinnedBox};
 use access_log::Turn;
 use master_core::{Master, Stepped};
-use plain_text::{NoMemory, Packet};
+use plain_text::{Bytes, NoMemory, Packet};
 use snapshot_store::Store;
 use std::alloc::Global;
 use std::test::Fail;
@@ -78,9 +77,19 @@ fn only_restoring_copies(
     Ok(first && second && store.restore(alloc, program).is_err())
 }
 
+/// A packet of six bytes.
+fn packet(alloc: Global) -> Result<Packet, NoMemory> {
+    Ok(Packet {
+        seconds: 1,
+        fraction: 2,
+        original: 60,
+        bytes: Bytes::of(alloc, &[0; 6])?,
+    })
+}
+
 /// The same, of a new store and a fresh master of one thread.
 fn only_restoring_copies_all(alloc: Global, program: &PinnedBox) -> Result<bool, NoMemory> {
-    let input = packet(alloc, &[0; 6])?;
+    let input = packet(alloc)?;
     let mut store = Store::new(alloc, program, 1)?;
     let mut master = Master::fresh(alloc, program, 1)?;
     only_restoring_copies(alloc, program, &mut store, &mut master, &input)

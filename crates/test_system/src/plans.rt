@@ -1,4 +1,4 @@
-//! Plans as texts: what is read of them, and the first fault of a text that is none.
+//! Plans as texts: what is read of them, and how they are written.
 use plain_text::{Kind, NoMemory};
 use plan_text::{PlanLine, put_plan, put_plan_line, read_plan};
 use std::alloc::Global;
@@ -50,14 +50,6 @@ fn is_written_as(alloc: Global, text: &str, wanted: &str) -> Result<bool, NoMemo
     match read_plan(alloc, text.as_bytes()) {
         Ok(lines) => Ok(put_plan(alloc, lines.as_slice())?.as_slice() == wanted.as_bytes()),
         Err(_) => Ok(false),
-    }
-}
-
-/// Whether a text has this first fault.
-fn is_refused_as(alloc: Global, text: &str, wanted: &str) -> Result<bool, NoMemory> {
-    match read_plan(alloc, text.as_bytes()) {
-        Ok(_) => Ok(false),
-        Err(error) => Ok(format!(in alloc; "{error}")?.as_str() == wanted),
     }
 }
 
@@ -118,15 +110,6 @@ const LINES: [(&str, PlanLine); 14] = [
     ("settle", PlanLine::Settle),
 ];
 
-#[test]
-fn reads_and_writes_each_line_of_a_plan(rt: HostRuntime) -> Result<(), Fail> {
-    for (text, line) in &LINES {
-        let both_ways = stands_for(rt.alloc(), text, *line)?;
-        assert!(rt; both_ways, "at {text:?}");
-    }
-    Ok(())
-}
-
 /// A text, and what is written of its plan, or its first fault.
 type Row = (&'static str, &'static str);
 
@@ -144,57 +127,11 @@ const READ: [Row; 5] = [
 
 #[test]
 fn reads_and_writes_plans(rt: HostRuntime) -> Result<(), Fail> {
-    for (text, wanted) in &READ {
-        let found = is_written_as(rt.alloc(), text, wanted)?;
-        assert!(rt; found, "at {text:?}");
+    for (text, line) in &LINES {
+        assert!(rt; stands_for(rt.alloc(), text, *line)?, "at {text:?}");
     }
-    Ok(())
-}
-
-/// Texts that are no plan, and the first fault of each.
-const FAULTS: [Row; 35] = [
-    ("step 0", "line 1: unknown word"),
-    ("log 0 1", "line 1: unknown word"),
-    ("Round", "line 1: unknown word"),
-    ("settle\r", "line 1: unknown word"),
-    ("round\n\n#\nround 1\nx", "line 4: extra word"),
-    ("feed 1\nlimit 0\nfeed", "line 2: missing word"),
-    ("feed", "line 1: missing word"),
-    ("feed x", "line 1: bad number"),
-    ("feed -1", "line 1: bad number"),
-    ("feed 1 2", "line 1: extra word"),
-    ("feed x 2", "line 1: bad number"),
-    ("feed 18446744073709551616", "line 1: bad number"),
-    ("feed 000000000000000000001", "line 1: bad number"),
-    ("limit", "line 1: missing word"),
-    ("limit 0", "line 1: missing word"),
-    ("limit x", "line 1: bad number"),
-    ("limit 0 x", "line 1: bad number"),
-    ("limit 0 1 2", "line 1: extra word"),
-    ("take", "line 1: missing word"),
-    ("take 1", "line 1: missing word"),
-    ("take 1 18446744073709551616", "line 1: bad number"),
-    ("take 1 2 3", "line 1: extra word"),
-    ("lose", "line 1: missing word"),
-    ("lose 0", "line 1: unknown word"),
-    ("lose nap", "line 1: unknown word"),
-    ("lose log", "line 1: missing word"),
-    ("lose log 0", "line 1: missing word"),
-    ("lose out x", "line 1: bad number"),
-    ("lose out 0 x", "line 1: bad number"),
-    ("lose log 0 1 2", "line 1: extra word"),
-    ("snap 1", "line 1: extra word"),
-    ("store 1", "line 1: extra word"),
-    ("crash 1", "line 1: extra word"),
-    ("recover 1", "line 1: extra word"),
-    ("settle 1", "line 1: extra word"),
-];
-
-#[test]
-fn names_the_first_fault_of_a_plan(rt: HostRuntime) -> Result<(), Fail> {
-    for (text, wanted) in &FAULTS {
-        let found = is_refused_as(rt.alloc(), text, wanted)?;
-        assert!(rt; found, "at {text:?}");
+    for (text, wanted) in &READ {
+        assert!(rt; is_written_as(rt.alloc(), text, wanted)?, "at {text:?}");
     }
     Ok(())
 }

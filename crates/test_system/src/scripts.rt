@@ -1,3 +1,4 @@
+use chain_text::read_chain;
 use plain_text::NoMemory;
 use script_text::{Event, Kind, auto_event, put_event, read_script};
 use std::alloc::Global;
@@ -136,15 +137,6 @@ const LINES: [(&str, Event); 18] = [
     ("auto 7 30000", Event::Auto { seed: 7, n: 30_000 }),
 ];
 
-#[test]
-fn reads_and_writes_each_event(rt: HostRuntime) -> Result<(), Fail> {
-    for (line, event) in &LINES {
-        let both_ways = stands_for(rt.alloc(), line, event)?;
-        assert!(rt; both_ways, "at {line:?}");
-    }
-    Ok(())
-}
-
 /// Scripts, and the lines of their events.
 const READ: [Row; 6] = [
     ("", ""),
@@ -161,68 +153,29 @@ const READ: [Row; 6] = [
     ),
 ];
 
-/// Texts that are no script, and the first fault of each.
-const FAULTS: [Row; 46] = [
-    ("stop 1", "line 1: unknown word"),
-    ("Feed 1", "line 1: unknown word"),
-    ("snap\n\n#\nsnap 1\nx", "line 4: extra word"),
-    ("settle\r", "line 1: unknown word"),
-    ("feed 1\r", "line 1: bad number"),
-    ("feed", "line 1: missing word"),
-    ("feed x", "line 1: bad number"),
-    ("feed 1 2", "line 1: extra word"),
-    ("feed x 2", "line 1: bad number"),
-    ("feed 18446744073709551616", "line 1: bad number"),
-    ("feed 000000000000000000001", "line 1: bad number"),
-    ("time -1", "line 1: bad number"),
-    ("step", "line 1: missing word"),
-    ("step x", "line 1: bad number"),
-    ("step 0 x", "line 1: unknown word"),
-    ("step 0 =", "line 1: missing word"),
-    ("step 0 = x", "line 1: bad number"),
-    ("step 0 = 1 2", "line 1: extra word"),
-    ("step x = y", "line 1: bad number"),
-    ("step 0 =1", "line 1: unknown word"),
-    ("log 0", "line 1: missing word"),
-    ("log x", "line 1: bad number"),
-    ("log 0 1 2", "line 1: extra word"),
-    ("out 0", "line 1: missing word"),
-    ("out 0 x", "line 1: bad number"),
-    ("late", "line 1: missing word"),
-    ("late x", "line 1: bad number"),
-    ("late 1", "line 1: missing word"),
-    ("late 1 set", "line 1: unknown word"),
-    ("late 1 set x", "line 1: unknown word"),
-    ("late 1 log 0", "line 1: missing word"),
-    ("late 1 out 0 1 2", "line 1: extra word"),
-    ("cut", "line 1: missing word"),
-    ("cut 0", "line 1: unknown word"),
-    ("cut log 0 1", "line 1: missing word"),
-    ("cut log 0 1 x", "line 1: bad number"),
-    ("cut out 0 1 2 3", "line 1: extra word"),
-    ("snap 1", "line 1: extra word"),
-    ("store 1", "line 1: extra word"),
-    ("crash 1", "line 1: extra word"),
-    ("recover 1", "line 1: extra word"),
-    ("show", "line 1: missing word"),
-    ("show 1 2", "line 1: extra word"),
-    ("settle 1", "line 1: extra word"),
-    ("auto 1", "line 1: missing word"),
-    ("auto 1 x", "line 1: bad number"),
-];
-
-/// All of them.
-const TEXTS: [&[Row]; 2] = [&READ, &FAULTS];
-
 #[test]
-fn reads_scripts_or_names_the_first_fault(rt: HostRuntime) -> Result<(), Fail> {
-    for rows in &TEXTS {
-        for (text, wanted) in *rows {
-            let found = comes_to(rt.alloc(), text, wanted)?;
-            assert!(rt; found, "at {text:?}");
-        }
+fn reads_and_writes_scripts(rt: HostRuntime) -> Result<(), Fail> {
+    for (line, event) in &LINES {
+        assert!(rt; stands_for(rt.alloc(), line, event)?, "at {line:?}");
+    }
+    for (text, wanted) in &READ {
+        assert!(rt; comes_to(rt.alloc(), text, wanted)?, "at {text:?}");
     }
     Ok(())
+}
+
+/// How many events the script of a chain has, if it is one.
+fn count_in_chain(alloc: Global, text: &[u8]) -> Option<usize> {
+    match read_chain(alloc, text) {
+        Ok(events) => Some(events.len()),
+        Err(_) => None,
+    }
+}
+
+#[test]
+fn reads_scripts_of_chains(rt: HostRuntime) {
+    assert!(rt; count_in_chain(rt.alloc(), b"1 settle\n2 settle\n") == Some(2));
+    assert!(rt; count_in_chain(rt.alloc(), b"1 settle\n3 settle\n").is_none());
 }
 
 /// Texts, and how many events each has or what is wrong with it.
@@ -335,17 +288,8 @@ const CHOSEN: [(u32, u32, Event); 14] = [
     ),
 ];
 
-#[test]
-fn chooses_events(rt: HostRuntime) {
-    for (a, b, event) in &CHOSEN {
-        let chosen = auto_event(*a, *b, &[5, 1], &[0, 9]);
-        assert!(rt; chosen == *event, "at {a} and {b}");
-    }
-}
-
-/// A thread is chosen though it has made nothing, and one of the last four entries of the other.
-#[test]
-fn chooses_by_what_each_thread_made(rt: HostRuntime) {
+/// Whether a thread is chosen though it has made nothing, and one of the last four entries of the other.
+fn chooses_by_what_was_made() -> bool {
     let step = Event::Step {
         thread: 1,
         answer: None,
@@ -354,6 +298,14 @@ fn chooses_by_what_each_thread_made(rt: HostRuntime) {
         thread: 1,
         number: 3,
     };
-    assert!(rt; auto_event(0, 1, &[0, 0], &[0, 0]) == step);
-    assert!(rt; auto_event(19, 33, &[0, 5], &[0, 0]) == log);
+    auto_event(0, 1, &[0, 0], &[0, 0]) == step && auto_event(19, 33, &[0, 5], &[0, 0]) == log
+}
+
+#[test]
+fn chooses_events(rt: HostRuntime) {
+    for (a, b, event) in &CHOSEN {
+        let chosen = auto_event(*a, *b, &[5, 1], &[0, 9]);
+        assert!(rt; chosen == *event, "at {a} and {b}");
+    }
+    assert!(rt; chooses_by_what_was_made());
 }

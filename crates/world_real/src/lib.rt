@@ -14,8 +14,6 @@ mod pieces;
 mod real_clock;
 mod real_file;
 mod real_world;
-#[cfg(test)]
-mod tests;
 
 pub use file_tap::FileTap;
 pub use notice::{Notice, ProgressLine, Silence};

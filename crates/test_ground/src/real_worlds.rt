@@ -1,4 +1,3 @@
-use crate::{RealClock, RealWorld, Silence};
 use plain_text::Text;
 use std::marker::Sync;
 use std::test::Fail;
@@ -6,6 +5,7 @@ use std::{env, fs, process};
 use world_io::{
     Clock, FixedClock, Front, OpenFault, World, WorldSink, WorldSource, read_front, write_all,
 };
+use world_real::{RealClock, RealWorld, Silence};
 
 const TEXT: &[u8] = b"two lines\nof bytes \xff\x00";
 
