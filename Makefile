@@ -10,7 +10,7 @@ SHARE = $(PREFIX)/share
 
 SOURCES := crates.txt scripts/build $(shell find crates -name out -prune -o -type f -print)
 
-.PHONY: all try first test plants promises manual example bench plots pictures soak interop install clean distclean
+.PHONY: all try first test plants promises manual example bench plots pictures soak interop peers install clean distclean
 
 # The program, proved and built.
 all: build/ftmb
@@ -100,6 +100,10 @@ interop: build/ftmb
 	scripts/connections build/ftmb build/connections
 	scripts/path_mtu build/ftmb build/path_mtu
 	scripts/browser build/ftmb build/browser
+
+# Judges Linux's own NAT in network namespaces, where it may (root, nft).
+peers: build/ftmb
+	scripts/peers build/ftmb build/peers
 
 # The manual page, README and the help, compared with the tables of the code; and the pages, where mandoc is there to read them.
 manual:
