@@ -3,12 +3,14 @@
 # The command of the kit that proves and builds.
 RT ?= rt
 
-# Where the program and its manual page go: PREFIX/bin and PREFIX/share/man.
+# Where the programs go, and all else: PREFIX/bin and PREFIX/share. DESTDIR stands in front where a package is made.
 PREFIX ?= /usr/local
+BIN = $(PREFIX)/bin
+SHARE = $(PREFIX)/share
 
 SOURCES := crates.txt scripts/build $(shell find crates -name out -prune -o -type f -print)
 
-.PHONY: all try test plants promises manual example bench plots pictures soak interop install clean distclean
+.PHONY: all try first test plants promises manual example bench plots pictures soak interop peers install clean distclean
 
 # The program, proved and built.
 all: build/ftmb
@@ -24,6 +26,10 @@ build/bench: $(SOURCES)
 # The example by the kit's unproved run, in two to three minutes each time: nothing is proved.
 try:
 	scripts/try $(RT) build/try
+
+# The first minute of README, unproved: the NAT of examples/ is drilled.
+first:
+	scripts/first $(RT) build/first
 
 # Every proof, edit that must fail, test and stored run.
 test:
@@ -85,23 +91,37 @@ soak: build/ftmb
 # Runs the program so that it ends with each of its statuses, and compares what it tells. Runs it on captures in all four forms and on
 # pcapng captures, and has tcpdump and Wireshark's tools read what was released; and has tshark verify the checksums of generated packets,
 # and of those that four racing threads sent through the NAT. Runs the NAT on 32,700 short connections, and has it
-# pass on what path MTU discovery needs. Chromium draws the pictures, where it is installed.
+# pass on what path MTU discovery needs. Types the first minute of README and what ftmb-run takes, and compares what comes back. Chromium draws
+# the pictures, where it is installed.
 interop: build/ftmb
 	scripts/statuses build/ftmb build/statuses
+	scripts/typed build/ftmb build/typed
 	scripts/interop build/ftmb build/interop
 	scripts/connections build/ftmb build/connections
 	scripts/path_mtu build/ftmb build/path_mtu
 	scripts/browser build/ftmb build/browser
 
-# The manual page, README and the help, beside the tables of the code.
+# Judges Linux's own NAT in network namespaces, where it may (root, nft).
+peers: build/ftmb
+	scripts/peers build/ftmb build/peers
+
+# The manual page, README and the help, compared with the tables of the code; and the pages, where mandoc is there to read them.
 manual:
 	scripts/manual
+	if command -v mandoc >/dev/null; then mandoc -Tlint -Wwarning docs/ftmb.1 docs/ftmb-run.1; fi
 
-# The program and its manual page, for all users.
+# The program, its wrapper, their manual pages, the documents and examples that these name, and completions for bash and zsh.
 install: build/ftmb
-	install -d $(DESTDIR)$(PREFIX)/bin $(DESTDIR)$(PREFIX)/share/man/man1
-	install -m 755 build/ftmb $(DESTDIR)$(PREFIX)/bin/ftmb
-	install -m 644 docs/ftmb.1 $(DESTDIR)$(PREFIX)/share/man/man1/ftmb.1
+	install -d $(DESTDIR)$(BIN) $(DESTDIR)$(SHARE)/man/man1 $(DESTDIR)$(SHARE)/doc/ftmb/examples
+	install -d $(DESTDIR)$(SHARE)/bash-completion/completions $(DESTDIR)$(SHARE)/zsh/site-functions
+	install -m 755 build/ftmb scripts/ftmb-run $(DESTDIR)$(BIN)
+	install -m 644 docs/ftmb.1 docs/ftmb-run.1 $(DESTDIR)$(SHARE)/man/man1
+	install -m 644 docs/REPORT.md docs/CHECKING.md docs/GLOSSARY.md $(DESTDIR)$(SHARE)/doc/ftmb
+	install -m 644 examples/README.md examples/nat.box examples/crash.script examples/two_hosts.pcap $(DESTDIR)$(SHARE)/doc/ftmb/examples
+	for name in ftmb ftmb-run; do \
+		scripts/completions bash $$name >$(DESTDIR)$(SHARE)/bash-completion/completions/$$name && \
+		scripts/completions zsh $$name >$(DESTDIR)$(SHARE)/zsh/site-functions/_$$name || exit 1; \
+	done
 
 clean:
 	rm -rf build
