@@ -12,8 +12,8 @@ what it released is written, and then its line of the report.
 
   BOX       text that names the box, read
   CAPTURE   capture of the packets to play, pcap or pcapng, read
-  SCRIPT    text of what is to happen, an event on each line, read: `feed N`,
-            `time N`, `step T`, `step T = V`, `log T N`, `out T J`,
+  SCRIPT    text that says what is to happen, one event on each line, read:
+            `feed N`, `time N`, `step T`, `step T = V`, `log T N`, `out T J`,
             `late E log T N`, `late E out T J`, `cut log T N LEN`,
             `cut out T J LEN`, `snap`, `store`, `crash`, `recover`,
             `show V`, `settle`, `flow N`, `auto S N`
@@ -22,19 +22,19 @@ what it released is written, and then its line of the report.
 
 ftmb live BOX CAPTURE PLAN RELEASED SCHEDULE SCRIPT
 
-Runs the box as the plan says, its threads beside each other, and writes the
+Runs the box as the plan says, its threads alongside each other, and writes the
 script of what happened. `run` with this script leaves the same report,
 RELEASED and SCHEDULE.
 
-  PLAN      text of what is asked, a line each, read: `feed N`, `limit T M`,
-            `take T F`, `lose log T N`, `lose out T N`, `round`, `snap`,
-            `store`, `crash`, `recover`, `settle`
+  PLAN      text that says what the threads are to do, one line each, read:
+            `feed N`, `limit T M`, `take T F`, `lose log T N`, `lose out T N`,
+            `round`, `snap`, `store`, `crash`, `recover`, `settle`
   SCRIPT    text of the events that happened, written
 
 ftmb drill BOX CAPTURE EVERY RELEASED SCHEDULE
 
-Runs the box with a crash behind each EVERY packets, and once more without
-crashes, and reports what became of the packets, and whether the same left.
+Runs the box with a crash after every EVERY packets, and once more without
+crashes. Reports what became of the packets, and what was lost or changed.
 
   EVERY     number from 1: so many packets come in, a snapshot is stored, the
             master crashes and recovers, as often as there are packets for;
@@ -44,7 +44,7 @@ crashes, and reports what became of the packets, and whether the same left.
 
 ftmb trace BOX CAPTURE SCRIPT TABLE
 
-Performs a script as `run` does, and tells of each packet what became of it.
+Performs a script as `run` does, and says what became of each packet.
 
   TABLE     text with a heading and a line for each packet that came in, with
             tabs: its number, its thread, its number there, the epoch and the
@@ -86,8 +86,8 @@ Nothing that was released before is released again.
 ftmb tap NAME .. run BOX CAPTURE SCRIPT RELEASED SCHEDULE
 ftmb tap NAME .. live BOX CAPTURE PLAN RELEASED SCHEDULE SCRIPT
 
-Does what stands behind the taps. What RELEASED took is written to each NAME
-too. One that fails is written no more, and the run goes on.
+Does what follows the taps. What RELEASED took is written to each NAME too. If
+one fails, no more is written to it, and the run goes on.
 
   NAME      copy of RELEASED, written; 1 to 64 times `tap NAME`
 
@@ -114,14 +114,14 @@ Makes N packets, at most 65,536, from a number, always the same ones.
 
 ftmb watch CAPTURE SKIP QUOTA
 
-Prints a line `SECONDS FRACTION LENGTH` for each packet behind the first SKIP,
+Prints a line `SECONDS FRACTION LENGTH` for each packet after the first SKIP,
 for QUOTA packets at most, as they are read.
 
 The report is written on standard output.
 
 Exit status: 0 done, 1 refuted, 2 bad words, 3 read fault, 4 write fault, 5 no memory,
-6 bad input, 7 too large, 9 not ready for a handover. What is not done is told on
-standard error.
+6 bad input, 7 too large, 9 not ready for a handover. Errors are reported on standard
+error.
 ";
 
 /// The text that `--help` prints on standard output.

@@ -7,11 +7,12 @@ use std::{io, str};
 const SHOWN: usize = 60;
 
 /// The words that some line of a text file has, besides numbers.
-const KNOWN: [&str; 39] = [
-    "=", "auto", "backend", "balancer", "box", "closing", "count", "crash", "cut", "ended", "feed",
-    "flow", "handover", "inside", "late", "limit", "log", "lose", "monitor", "move", "nat", "out",
-    "outside", "ports", "recover", "released", "round", "seed", "settle", "shards", "show", "snap",
-    "state", "step", "store", "take", "threads", "time", "virtual",
+const KNOWN: [&str; 45] = [
+    "=", "auto", "backend", "balancer", "box", "closing", "count", "crash", "cut", "ended",
+    "errors", "feed", "flow", "handover", "icmp", "inside", "late", "limit", "log", "lose",
+    "monitor", "move", "nat", "out", "outside", "ports", "recover", "released", "round", "seed",
+    "settle", "shards", "show", "snap", "state", "static", "step", "store", "take", "tcp",
+    "threads", "time", "udp", "virtual", "vlan",
 ];
 
 /// Shows the line that is refused, and which of its words is in no grammar, if one is.
