@@ -16,9 +16,14 @@ fn is_last(packet: &Packet) -> bool {
         && packet.bytes.as_slice() == LAST_OF_20000.as_slice()
 }
 
+/// Whether these are 20,000 packets, of which the last is that one.
+fn are_made(packets: &[Packet]) -> bool {
+    packets.len() == 20_000 && is_last(&packets[19_999])
+}
+
 #[test]
 fn makes_20000_packets_of_a_seed(rt: HostRuntime) -> Result<(), NoMemory> {
     let packets = make(rt.alloc(), 7, 20_000)?;
-    assert!(rt; packets.len() == 20_000 && packets.last().is_some_and(is_last));
+    assert!(rt; are_made(packets.as_slice()));
     Ok(())
 }
