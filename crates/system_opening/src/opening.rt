@@ -49,11 +49,15 @@ pub fn open_parts<P: Program>(
     if packets.len() >= MOST_PACKETS {
         return Err(NoMemory);
     }
-    let inputs = InputLog::new(alloc, threads, tags)?;
-    let sent = SentFrames::new(alloc, threads)?;
-    let logger = OutputLogger::new(alloc, threads)?;
-    let master = Master::fresh(alloc, &program, threads)?;
-    let store = Store::new(alloc, &program, threads)?;
+    let (Ok(inputs), Ok(sent), Ok(logger), Ok(master), Ok(store)) = (
+        InputLog::new(alloc, threads, tags),
+        SentFrames::new(alloc, threads),
+        OutputLogger::new(alloc, threads),
+        Master::fresh(alloc, &program, threads),
+        Store::new(alloc, &program, threads),
+    ) else {
+        return Err(NoMemory);
+    };
     let left = VecDeque::from_vec(packets.into_vec());
     Ok(Core {
         alloc,
