@@ -238,7 +238,7 @@ module _ (s : Settings) (m : Met) (p : Packet) (e : Endpoint × Slot) where
       (by_find most n.source n.time es
       (λ (r : Find × Forwards). (x : Endpoint × Slot) → Has r.1 x → IsOld n.source es x)
       (λ x there. found_old n.source n.time es a b x there)
-      (λ gone none q x there. inl (without_was gone.0 es x there))) h)
+      (λ gone none q x there. inl (without_was gone.0 es x there)) (λ none full x there. inl there)) h)
   touch_now v _ _ n None (unbinds_freed bs) fits k h = absurd h
   touch_now v _ _ n (Some most) (unbinds_freed bs) fits k h = absurd h
   touch_now v _ _ n None (gives_freed pool) fits k h = absurd h
