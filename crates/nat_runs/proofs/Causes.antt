@@ -68,7 +68,8 @@ module _ (s : Settings) (is : AreSettings s) (packets : List Packet) (value : �
 
   at_touch : (h : Hand) (w : ℕ) (after : NatValue)
       → after ≡ followed s (noted h.place) (touched_by s.limit (at h) (value w) (noted h.place)).0
-      → comes_to s h (Access w) → Known s m (Some h) → Full s m U drew (Some h) → act_of t earlier taken_then (Touches w after) ≡ Did entry left
+      → comes_to s h (Access w) → Known s m (Some h) → Full s m U drew (Some h)
+      → act_of t earlier taken_then (Touches w after) ≡ Did entry left
       → Counted s m U drew h.packet (value 0) (cond (nat_eq w 0) after (value 0))
   at_touch h w after q move k full e =
       let this : Entry = entry_of t (log_of earlier) (Accessed w (places w (log_of earlier) + 1)) in
@@ -98,12 +99,15 @@ module _ (s : Settings) (is : AreSettings s) (packets : List Packet) (value : �
 
   pub move_counts : (after : Thread) (d : Effect NatValue) (hand : Option Hand) (a : Option ℕ)
       → held_move (nat_meaning s) packets value taken a hand ≡ Moves after d → Counts hand after.hand d
-  move_counts after d hand a move = by_move s packets value taken Counts (λ p input k u e. absurd (cc)) (λ h w c k u e. (
-    h,
-    refl,
-    at_touch h w (followed s (noted h.place) (touched_by s.limit (at h) (value w) (noted h.place)).0) refl c k u e,
-  )) (λ h w c k u e. absurd (not_read w (places w (log_of earlier)) (what_of (WasRead w (places w (log_of earlier))) e)))
-      (λ h x c k u e. absurd (not_heard x (what_of (Heard x) e))) (λ h x c k u e. absurd (not_drew x (what_of (Drew x) e)))
+  move_counts after d hand a move = by_move s packets value taken Counts (λ p input k u e. absurd (cc))
+      (λ h w c k u e. (
+        h,
+        refl,
+        at_touch h w (followed s (noted h.place) (touched_by s.limit (at h) (value w) (noted h.place)).0) refl c k u e,
+      )) (λ h w c k u e. absurd (not_read w (places w (log_of earlier)) (what_of (WasRead w (places w (log_of earlier)))
+      e)))
+      (λ h x c k u e. absurd (not_heard x (what_of (Heard x) e))) (λ h x c k u e. absurd (not_drew x (what_of (Drew x)
+      e)))
       (λ h c k u e. absurd (cc)) (λ h c k u e. absurd (cc)) after d hand a move
 
 pub drops_have_causes : DropsHaveCauses

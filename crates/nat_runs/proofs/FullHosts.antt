@@ -47,9 +47,11 @@ use Rattle.flow_boxes.specs.Flows.{source_of}
 use Rattle.flow_boxes.specs.Drops.{reason_of}
 use Rattle.flow_boxes.proofs.HeldInputs.{IsHeld, run_holds}
 use Rattle.nat_box.specs.Places.{place_numbered, noted, local_of, dest_key}
-use Rattle.nat_box.specs.Nat.{Settings, goes, dropped, over_limit, forward_table, class_seen, flow_seen, begun_by, mapped}
+use Rattle.nat_box.specs.Nat.{Settings, goes, dropped, over_limit, forward_table, class_seen, flow_seen, begun_by}
+use Rattle.nat_box.specs.Nat.{mapped}
 use Rattle.nat_box.specs.Nat.{after_find, after_reserve, after_bind, after_find_within, after_bind_within, after_lost}
-use Rattle.nat_box.specs.Nat.{touched_by, followed_by, followed, after_endpoint, looked_by, used_port, after_port, looked}
+use Rattle.nat_box.specs.Nat.{touched_by, followed_by, followed, after_endpoint, looked_by, used_port, after_port}
+use Rattle.nat_box.specs.Nat.{looked}
 use Rattle.nat_box.specs.Nat.{after_time, told, local_at, begun, seen_by, nat_meaning, Fits}
 use Rattle.nat_box.specs.Noting.{place_again, IsNoted, is_noted, noted_again}
 use Rattle.nat_box.specs.Lawful.{AreSettings, var_of, touches_it, nat_lawful}
@@ -65,7 +67,8 @@ use Rattle.nat_runs.proofs.TableEntries.{slot_in, idle_is}
 use Rattle.nat_runs.proofs.Within.{by_bind, idle_of_host}
 use Rattle.nat_runs.proofs.ThreadMoves.{TouchKind, finds, unbinds_freed, gives_freed, reserves, binds, finds_or_binds}
 use Rattle.nat_runs.proofs.ThreadMoves.{unbinds_lost, gives_lost, counts, LookKind, finds_endpoint, asks, finds_port}
-use Rattle.nat_runs.proofs.ThreadMoves.{touch_kind, look_kind, at_clock, at_draw, at, touched_below, read_below, by_move}
+use Rattle.nat_runs.proofs.ThreadMoves.{touch_kind, look_kind, at_clock, at_draw, at, touched_below, read_below}
+use Rattle.nat_runs.proofs.ThreadMoves.{by_move}
 use Rattle.nat_runs.proofs.Knowing.{IsBase, IsWanting, KnownAt, Known, outward_flow, timed, time_noted, looked_noted}
 use Rattle.nat_runs.proofs.Knowing.{run_known}
 use Rattle.nat_runs.proofs.ThreadMoves.{entry_is}
@@ -304,7 +307,8 @@ module _ (s : Settings) (U : Type 0) (d : Bool) (value : ℕ → NatValue) (v : 
       reserved_full s (met_after m None ReservesPort (Free pool) n) (LeftBy None ReservesPort (Free pool) n) d n
       (reserve n.source.protocol n.source.port n.word pool).0 k
   touch_full m _ _ n (Some most) limit is (reserves pool) it k =
-      reserved_full s (met_after m (Some most) ReservesPort (Free pool) n) (LeftBy (Some most) ReservesPort (Free pool) n)
+      reserved_full s (met_after m (Some most) ReservesPort (Free pool) n) (LeftBy (Some most) ReservesPort (Free pool)
+      n)
       d n (reserve n.source.protocol n.source.port n.word pool).0 k
   touch_full m _ _ n None limit is (binds bs) it k = k
   touch_full m _ _ n (Some most) limit is (binds bs) it k = k
@@ -319,7 +323,8 @@ module _ (s : Settings) (U : Type 0) (d : Bool) (value : ℕ → NatValue) (v : 
   touch_full m _ _ n None limit is (gives_lost pool) it k =
       mapped_full s (met_after m None GivesBackLost (Free pool) n) (LeftBy None GivesBackLost (Free pool) n) d n n.class
   touch_full m _ _ n (Some most) limit is (gives_lost pool) it k =
-      lost_full s (met_after m (Some most) GivesBackLost (Free pool) n) (LeftBy (Some most) GivesBackLost (Free pool) n) d
+      lost_full s (met_after m (Some most) GivesBackLost (Free pool) n) (LeftBy (Some most) GivesBackLost (Free pool)
+      n) d
       n (n.port == 0) k
   touch_full m _ _ n None limit is (counts drops) it k = tt
   touch_full m _ _ n (Some most) limit is (counts drops) it k = tt
@@ -447,7 +452,8 @@ module _ (s : Settings) (packets : List Packet) (value : ℕ → NatValue) (t : 
       by_move s packets value taken Draws (λ p input e. absurd (cc))
       (λ h v c e. absurd (not_touched v (places v (log_of earlier) + 1)
       (what_of (Accessed v (places v (log_of earlier) + 1)) _ e)))
-      (λ h v c e. absurd (not_read v (places v (log_of earlier)) (what_of (WasRead v (places v (log_of earlier))) None e)))
+      (λ h v c e. absurd (not_read v (places v (log_of earlier)) (what_of (WasRead v (places v (log_of earlier))) None
+      e)))
       (λ h x c e. absurd (not_heard x (what_of (Heard x) None e)))
       (λ h x c e. (h, refl, at_draw s (at h) (noted h.place) c)) (λ h c e. absurd (cc)) (λ h c e. absurd (cc)) after e
       hand a move
@@ -457,7 +463,8 @@ draws_had_room s threads inputs x earlier entry left word most is bytes h act wh
     let m : Met = met_of s x.thread earlier in
     let value : ℕ → NatValue = value_after (nat_meaning s) earlier in
     let before : Thread = thread_after earlier x.thread in
-    let c = move_draws s (inputs x.thread) value x.thread earlier before.taken x.after.taken entry left word what x.after
+    let c = move_draws s (inputs x.thread) value x.thread earlier before.taken x.after.taken entry left word what
+    x.after
     h.0.2 before.hand h.0.1 h.0.3 (sym h.0.4 ∙ act) in
     let held : IsHeld (inputs x.thread) before.taken (Some c.0) =
     subst (IsHeld (inputs x.thread) before.taken) c.1 (run_holds (nat_meaning s) threads inputs earlier h.1 x.thread) in

@@ -207,7 +207,7 @@ mapping_at s v (Free pool) key slot fits h = absurd h
 mapping_at s v (Mapped es) key slot fits h = (may_mapping (MayMap s v) key slot es fits.2 h).0
 mapping_at s v (Taken bs) key slot fits h = absurd h
 
-free_elsewhere : (s : Settings) (v : ℕ) (x : NatValue) (k : PortKey) → Fits s v x → v ≢ 1 → free_at k x ≡ 0
+pub free_elsewhere : (s : Settings) (v : ℕ) (x : NatValue) (k : PortKey) → Fits s v x → v ≢ 1 → free_at k x ≡ 0
 free_elsewhere s v (Dropped d) k fits other = refl
 free_elsewhere s v (Free pool) k fits other = absurd (other fits.0)
 free_elsewhere s v (Mapped es) k fits other = refl

@@ -4,6 +4,8 @@ pub mod Within
 pub mod ThreadMoves
 pub mod Knowing
 pub mod FullHosts
+pub mod GivingWay
+pub mod NewPorts
 pub mod Staying
 pub mod Following
 pub mod Used

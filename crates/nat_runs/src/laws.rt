@@ -1,5 +1,7 @@
 //! The laws on every run of the box. Each is proved, and does nothing: a caller has it by the call.
 ghost use Rattle.nat_runs.specs.Passing.{EachPasses, NoneVanishes, NoneVanishesAtRest};
+ghost use Rattle.nat_runs.specs.GivingWay.{IdleGiveWay};
+ghost use Rattle.nat_runs.specs.Parity.{NewHaveParity};
 ghost use Rattle.nat_runs.specs.Staying.{MappingsStay};
 ghost use Rattle.nat_runs.specs.Following.{FollowedByTheLine, NoneFollowedWithoutIt};
 ghost use Rattle.nat_runs.specs.Following.{TouchesAsBefore, BeginsAsBefore, HostsFollow};
@@ -23,6 +25,21 @@ pub fn no_packet_vanishes()
     ensures each { EachPasses }
     ensures always { NoneVanishes }
     ensures at_rest { NoneVanishesAtRest }
+{}
+
+/// Idle mappings give way, at each touch of a forward table by a packet from inside, at the time that it was told. When
+/// it looks for its mapping, before it draws a word, it leaves no mapping of its own endpoint that was idle; and where
+/// its endpoint had none, and one of the table was idle that may give way to it, one that was idle is gone. Where hosts
+/// have a limit, and its own has reached it, only those of this host may. Each mapping of its endpoint that it leaves
+/// was last used at this time, or it was there and was used later.
+pub fn idle_mappings_give_way()
+    ensures { IdleGiveWay }
+{}
+
+/// A mapping that a step makes has the parity of its inside port, if a port of this parity and of its protocol was free
+/// when the step's packet touched the pool (RFC 4787, REQ-4).
+pub fn new_mappings_keep_parity()
+    ensures { NewHaveParity }
 {}
 
 /// At each step each mapping stays, with its port, or it was idle at the time that the packet was told: not used for
