@@ -7,3 +7,4 @@ pub mod DropCauses
 pub mod BusyConnections
 pub mod LoadTouches
 pub mod Following
+pub mod Refreshing

@@ -5,3 +5,4 @@ pub mod Causes
 pub mod Choosing
 pub mod Answering
 pub mod Following
+pub mod Refreshing

@@ -5,6 +5,7 @@ ghost use Rattle.balancer_runs.specs.Staying.{ConnectionsStay};
 ghost use Rattle.balancer_runs.specs.Causes.{DropsHaveCauses};
 ghost use Rattle.balancer_runs.specs.Following.{FollowedByTheLine, NoneFollowedWithoutIt};
 ghost use Rattle.balancer_runs.specs.Following.{TouchesAsBefore, BeginsAsBefore, SidesFollow};
+ghost use Rattle.balancer_runs.specs.Refreshing.{OnlyClientsRefresh, ClientsRefresh};
 ghost use Rattle.balancer_runs.specs.Choosing.{LeastLoadsAreRaised, NewConnectionsHaveLeastLoad};
 
 /// In each run, whatever its threads, its inputs and the order of its moves: each packet that was taken went out, was
@@ -58,4 +59,13 @@ pub fn connections_are_followed_by_the_line()
     ensures touches { TouchesAsBefore }
     ensures begins { BeginsAsBefore }
     ensures sides { SidesFollow }
+{}
+
+/// At each step of each run on packets of bytes, a connection was last used when it was before the step; or the step's
+/// packet is one of its own client to the virtual address and port, and it was used at the time that this packet was
+/// told (`only`). So answers refresh nothing. And each touch of a connection table by a packet of a client leaves its
+/// own connection, if it leaves one, used at the packet's time or later (`each`).
+pub fn clients_refresh_their_own_connections()
+    ensures only { OnlyClientsRefresh }
+    ensures each { ClientsRefresh }
 {}

@@ -279,10 +279,11 @@ module _ (May : Endpoint → Slot → Type 0) (most : ℕ) (n : Noted) (es : For
                 ∙ ap (λ (fs : Forwards). (Mapped fs, dropped n over_limit)) left;
           })))
 
-  up_by : (o : Option (Endpoint × Slot)) → first_idle_of n.source n.time es ≡ o
-      → FindComes (given_up n.source n.time es o)
-  up_by None is = as_found
-  up_by (Some gone) is =
+  up_by : (o : Option (Endpoint × Slot)) → is_full most n.source es ≡ true → first_idle_of n.source n.time es ≡ o
+      → FindComes (given_up es o)
+  up_by None full is =
+      rw full (inr (inl (inr (record { es = es; at = refl; value = refl; goes_on = refl }))))
+  up_by (Some gone) full is =
       let first = first_is May n.source n.time es gone all is in
       inr (inl (inl (record {
         es = es;
@@ -294,15 +295,14 @@ module _ (May : Endpoint → Slot → Type 0) (most : ℕ) (n : Noted) (es : For
         idle = first.1;
       })))
 
-  full_by : (b : Bool)
-      → FindComes (if b then given_up n.source n.time es (first_idle_of n.source n.time es)
-      else find n.source n.time es)
-  full_by true = up_by (first_idle_of n.source n.time es) refl
-  full_by false = as_found
+  full_by : (b : Bool) → is_full most n.source es ≡ b
+      → FindComes (if b then given_up es (first_idle_of n.source n.time es) else find n.source n.time es)
+  full_by true full = up_by (first_idle_of n.source n.time es) full refl
+  full_by false full = as_found
 
   found_by : (a : Option Slot) → FindComes (found_within most n.source n.time es a)
   found_by (Some slot) = as_found
-  found_by None = full_by (is_full most n.source es)
+  found_by None = full_by (is_full most n.source es) refl
 
 bind_comes : (most : ℕ) (n : Noted) (es : Forwards) (a : Option Slot)
     → (let r = bound_within most n.source n.port n.time es a in
@@ -412,8 +412,8 @@ find_is_within May most statics n es all within = by (slot_of n.source es)
     plain = within_fewer (Some most) statics es (find n.source n.time es).1 (fewer_find n.source n.time es) within
 
     up_by : (o : Option (Endpoint × Slot)) → first_idle_of n.source n.time es ≡ o
-        → AreWithin (Some most) statics (given_up n.source n.time es o).1
-    up_by None is = plain
+        → AreWithin (Some most) statics (given_up es o).1
+    up_by None is = within
     up_by (Some gone) is =
         let first = first_is May n.source n.time es gone all is in
         within_fewer (Some most) statics es (without gone.0 es)
@@ -421,8 +421,7 @@ find_is_within May most statics n es all within = by (slot_of n.source es)
 
     full_by : (b : Bool)
         → AreWithin (Some most) statics
-        (if b then given_up n.source n.time es (first_idle_of n.source n.time es)
-        else find n.source n.time es).1
+        (if b then given_up es (first_idle_of n.source n.time es) else find n.source n.time es).1
     full_by true = up_by (first_idle_of n.source n.time es) refl
     full_by false = plain
 

@@ -154,7 +154,7 @@ known_on s m h g is k =
 
 -- Numbers fit
 
-timed : (n : Noted) (a : ℕ) → IsNoted n → IsNoted (record n { time = a })
+pub timed : (n : Noted) (a : ℕ) → IsNoted n → IsNoted (record n { time = a })
 timed n a is = record {
   protocol = is.protocol;
   address = is.address;
@@ -168,13 +168,13 @@ timed n a is = record {
   target_port = is.target_port;
 }
 
-time_noted : (n : Noted) (c : Class) → IsNoted n → IsNoted (after_time n c).noted
+pub time_noted : (n : Noted) (c : Class) → IsNoted n → IsNoted (after_time n c).noted
 time_noted n Outbound is = is
 time_noted n Hairpin is = is
 time_noted n Inbound is = is
 time_noted n OutboundError is = is
 
-looked_noted : (s : Settings) (v : ℕ) (place : Place) (x : NatValue) (n : Noted) → LookKind place x → Fits s v x
+pub looked_noted : (s : Settings) (v : ℕ) (place : Place) (x : NatValue) (n : Noted) → LookKind place x → Fits s v x
     → IsNoted n → IsNoted (looked place x n).noted
 looked_noted s v _ _ n (finds_endpoint bs) fits is = by (endpoint_of (dest_key n) bs) refl
   where
@@ -207,7 +207,7 @@ mapping_at s v (Free pool) key slot fits h = absurd h
 mapping_at s v (Mapped es) key slot fits h = (may_mapping (MayMap s v) key slot es fits.2 h).0
 mapping_at s v (Taken bs) key slot fits h = absurd h
 
-free_elsewhere : (s : Settings) (v : ℕ) (x : NatValue) (k : PortKey) → Fits s v x → v ≢ 1 → free_at k x ≡ 0
+pub free_elsewhere : (s : Settings) (v : ℕ) (x : NatValue) (k : PortKey) → Fits s v x → v ≢ 1 → free_at k x ≡ 0
 free_elsewhere s v (Dropped d) k fits other = refl
 free_elsewhere s v (Free pool) k fits other = absurd (other fits.0)
 free_elsewhere s v (Mapped es) k fits other = refl
@@ -585,6 +585,8 @@ module _ (s : Settings) (p : Packet) where
           (base_on n (record n { freed = port_of e }) refl refl refl refl k.0, k.1, k.2),
           unmapped (ap (used_slot n.source n.time) none),
         ))
+        (λ none full.
+        within_known q n most limit k (Absent None) es (λ e. none) (k, unmapped (ap (used_slot n.source n.time) none)))
     touch_known m w _ _ n None limit is low (unbinds_freed bs) at k = k
     touch_known m w _ _ n (Some most) limit is low (unbinds_freed bs) at k = k
     touch_known m w _ _ n None limit is low (gives_freed pool) at k = k

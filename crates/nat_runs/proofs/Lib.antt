@@ -3,6 +3,9 @@ pub mod MarkedEntries
 pub mod Within
 pub mod ThreadMoves
 pub mod Knowing
+pub mod FullHosts
+pub mod GivingWay
+pub mod NewPorts
 pub mod Staying
 pub mod Following
 pub mod Used

@@ -1,5 +1,5 @@
 -- The mappings of a table after a segment was noted in one of them.
-use Rattle.std.proofs.Common.{◌≡◌, ℕ, Bool, true, false, [], ◌∷◌, refl, ap, ◌∙◌, inl, inr, Option, Some, None}
+use Rattle.std.proofs.Common.{◌≡◌, ℕ, Bool, true, false, [], ◌∷◌, refl, sym, ap, ◌∙◌, inl, inr, Option, Some, None}
 use Rattle.std.specs.Prelude.{◌==◌, if◌then◌else◌}
 use Rattle.nat_tables.specs.declared.entries.Endpoint.{Endpoint}
 use Rattle.nat_tables.specs.declared.slot.Slot.{Slot}
@@ -36,19 +36,26 @@ marked_has own seconds segment (x ∷ es) key slot h =
 
 -- and so it was before
 marked_had : (own : Endpoint) (seconds : ℕ) (segment : Segment) (es : Forwards) (key : Endpoint) (slot : Slot)
-    → Has (mark own seconds segment es) (key, slot) → (old : Slot) × Has es (key, old)
+    → Has (mark own seconds segment es) (key, slot) → (old : Slot) × Has es (key, old) × (slot.last ≡ old.last)
+    × (slot.port ≡ old.port)
 marked_had own seconds segment [] key slot h = absurd h
 marked_had own seconds segment (x ∷ es) key slot h =
     by (same_endpoint own x.0) h (marked_had own seconds segment es key slot)
   where
     by : (b : Bool)
         → Has (if b then (x.0, marked seconds segment x.1) ∷ es else x ∷ mark own seconds segment es) (key, slot)
-        → (Has (mark own seconds segment es) (key, slot) → (old : Slot) × Has es (key, old))
-        → (old : Slot) × Has (x ∷ es) (key, old)
-    by true (inl p) rest = (x.1, inl (ap (λ (z : Endpoint × Slot). (z.0, x.1)) p))
-    by true (inr h) rest = (slot, inr h)
-    by false (inl p) rest = (slot, inl p)
-    by false (inr h) rest = let r = rest h in (r.0, inr r.1)
+        → (Has (mark own seconds segment es) (key, slot)
+        → (old : Slot) × Has es (key, old) × (slot.last ≡ old.last) × (slot.port ≡ old.port))
+        → (old : Slot) × Has (x ∷ es) (key, old) × (slot.last ≡ old.last) × (slot.port ≡ old.port)
+    by true (inl p) rest = (
+      x.1,
+      inl (ap (λ (z : Endpoint × Slot). (z.0, x.1)) p),
+      ap (λ (z : Endpoint × Slot). z.1.last) (sym p),
+      ap (λ (z : Endpoint × Slot). z.1.port) (sym p),
+    )
+    by true (inr h) rest = (slot, inr h, refl, refl)
+    by false (inl p) rest = (slot, inl p, refl, refl)
+    by false (inr h) rest = let r = rest h in (r.0, inr r.1, r.2, r.3)
 
 marked_was : (own : Endpoint) (seconds : ℕ) (segment : Segment) (es : Forwards) (e : Endpoint × Slot)
     → Has (mark own seconds segment es) e → WasOr own e es
@@ -80,14 +87,15 @@ followed_has (Some seconds) n es key slot h = by (n.source.protocol == 6)
     by false = (slot, h, refl, refl)
 
 pub followed_had : (c : Option ℕ) (n : Noted) (es : Forwards) (key : Endpoint) (slot : Slot)
-    → Has (followed_by c n es) (key, slot) → (old : Slot) × Has es (key, old)
-followed_had None n es key slot h = (slot, h)
+    → Has (followed_by c n es) (key, slot) → (old : Slot) × Has es (key, old) × (slot.last ≡ old.last)
+    × (slot.port ≡ old.port)
+followed_had None n es key slot h = (slot, h, refl, refl)
 followed_had (Some seconds) n es key slot h = by (n.source.protocol == 6) h
   where
     by : (b : Bool) → Has (if b then mark n.source seconds n.segment es else es) (key, slot)
-        → (old : Slot) × Has es (key, old)
+        → (old : Slot) × Has es (key, old) × (slot.last ≡ old.last) × (slot.port ≡ old.port)
     by true h = marked_had n.source seconds n.segment es key slot h
-    by false h = (slot, h)
+    by false h = (slot, h, refl, refl)
 
 pub followed_was : (c : Option ℕ) (n : Noted) (es : Forwards) (e : Endpoint × Slot) → Has (followed_by c n es) e
     → WasOr n.source e es

@@ -87,7 +87,7 @@ module _ (s : Settings) (m : Met) (p : Packet) (e : Endpoint × Slot) where
       (followed_was s.closing n _ e h)
       (by_find most n.source n.time es (λ (r : Find × Forwards). Has r.1 e → WasOr n.source e es)
       (found_was n.source n.time es (slot_of n.source es) (first_idle n.time es) e)
-      (λ gone none q h. inl (without_was gone.0 es e h))))
+      (λ gone none q h. inl (without_was gone.0 es e h)) (λ none full h. inl h)))
   touch_was _ _ n None (unbinds_freed bs) k h = absurd h
   touch_was _ _ n (Some most) (unbinds_freed bs) k h = absurd h
   touch_was _ _ n None (gives_freed pool) k h = absurd h

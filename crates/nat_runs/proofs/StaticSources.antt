@@ -62,7 +62,7 @@ use Rattle.nat_runs.proofs.ThreadMoves.{unbinds_lost, gives_lost, counts, LookKi
 use Rattle.nat_runs.proofs.ThreadMoves.{touch_kind, look_kind, at_clock, at_draw, at, touched_below, read_below}
 use Rattle.nat_runs.proofs.ThreadMoves.{by_move}
 use Rattle.nat_runs.proofs.ThreadMoves.{begins_with}
-use Rattle.nat_runs.proofs.Causes.{entry_is}
+use Rattle.nat_runs.proofs.ThreadMoves.{entry_is}
 use Rattle.nat_runs.proofs.Knowing.{IsBase, KnownAt, Known, run_known}
 
 -- where a packet may be that finds its mapping at once

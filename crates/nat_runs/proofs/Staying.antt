@@ -110,7 +110,8 @@ module _ (m : Met) (e : Endpoint × Slot) where
         followed_keeps s.closing n (find_within most n.source n.time es).1
         (by_find most n.source n.time es (λ (r : Find × Forwards). Kept (Mapped r.1))
         (found_keeps n.time k.1 (MayMap s v) es fits.2 h n.source (slot_of n.source es) (first_idle n.time es) refl)
-        (λ gone none q. gives_keeps n.time k.1 (MayMap s v) es fits.2 h n.source gone q))
+        (λ gone none q. gives_keeps n.time k.1 (MayMap s v) es fits.2 h n.source gone q)
+        (λ none full. unchanged (Mapped es) h))
     touch_keeps v _ _ n limit (unbinds_freed bs) fits k h = absurd h
     touch_keeps v _ _ n limit (gives_freed pool) fits k h = absurd h
     touch_keeps v _ _ n limit (reserves pool) fits k h = absurd h

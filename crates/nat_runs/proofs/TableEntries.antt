@@ -76,6 +76,19 @@ slot_in key slot (x ∷ es) e = by (same_endpoint key x.0) refl e (slot_in key s
         let k : x.0 ≡ key = sym (same_is key x.0 q) in let z : x.1 ≡ slot = cc in inl (λ i. (k i, z i))
     by false q e rest = inr (rest e)
 
+pub not_there : (key : Endpoint) (es : Forwards) → slot_of key es ≡ None → (old : Slot) → Has es (key, old) → ⊥
+not_there key [] none old h = absurd h
+not_there key (x ∷ es) none old h = by (same_endpoint key x.0) refl none h (λ q. not_there key es q old)
+  where
+    by : (b : Bool) → same_endpoint key x.0 ≡ b → (if b then Some x.1 else slot_of key es) ≡ None
+        → Has (x ∷ es) (key, old) → (slot_of key es ≡ None → Has es (key, old) → ⊥) → ⊥
+    by true q none h rest = absurd (cc)
+    by false q none (inl p) rest =
+        let same : same_endpoint key x.0 ≡ true =
+        subst (λ (z : Endpoint × Slot). same_endpoint key z.0 ≡ true) (sym p) (same_self key) in
+        absurd (cc)
+    by false q none (inr h) rest = rest none h
+
 pub slot_there : (May : Endpoint → Slot → Type 0) (es : Forwards) (key : Endpoint) (slot : Slot) → AreMappings May es
     → Has es (key, slot) → slot_of key es ≡ Some slot
 slot_there May [] key slot all h = absurd h

@@ -1,10 +1,12 @@
 -- The moves of a thread of the box: where its packet is before each, and the kind of the value that it finds.
-use Rattle.std.proofs.Common.{◌≡◌, ℕ, ◌+◌, ◌*◌, ◌<◌, ◌≤◌, List, refl, subst, arith, Option, Some, None}
+use Rattle.std.proofs.Common.{◌≡◌, ℕ, ◌+◌, ◌*◌, ◌<◌, ◌≤◌, List, refl, ap, subst, arith, Option, Some, None}
 use Rattle.std.specs.Prelude.{slice_get}
 use Rattle.plain_text.specs.declared.packet.Packet.{Packet}
+use Rattle.entry_order.specs.Log.{Entry}
 use Rattle.plain_machine.specs.declared.local.Move.{Move}
 use Rattle.plain_machine.specs.declared.local.Move.TheVariants.{Access, Read, Clock, Draw, Emit, End}
 use Rattle.plain_machine.specs.Machine.{Hand, Thread, Effect, Takes, Touches, Looks, HearsClock, HearsDraw, Sends}
+use Rattle.plain_machine.specs.History.{Did}
 use Rattle.plain_machine.specs.Machine.{Ends as EndsIt, Moves, holding, sent_packet, take_move, hand_move, held_move}
 use Rattle.nat_tables.specs.Ports.{PoolPorts}
 use Rattle.nat_tables.specs.Forwards.{Forwards}
@@ -294,3 +296,7 @@ module _ (s : Settings) (packets : List Packet) (value : ℕ → NatValue) (take
   by_move after d hand a e =
       by_thread_move s packets value taken (λ before th u. P before th.hand u) take touch look clock draw send end after
       d hand a e
+
+-- the entry of a move is this one
+pub entry_is : (a b : Entry) (left right : Option NatValue) → Did a left ≡ Did b right → a.what ≡ b.what
+entry_is a b left right e = let same : a ≡ b = cc in ap (λ (x : Entry). x.what) same

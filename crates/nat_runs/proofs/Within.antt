@@ -34,25 +34,26 @@ use Rattle.flow_boxes.proofs.Summing.{term_of_sum}
 -- The answers
 
 module _ (most : ℕ) (key : Endpoint) (now : ℕ) (es : Forwards) where
-  -- it finds what it finds without a limit, or the host gives up one of its mappings
+  -- it finds what it finds without a limit, or its full host gives up one of its mappings, or has none to give up
   pub by_find : (P : Find × Forwards → Type 0) → P (find key now es)
       → ((e : Endpoint × Slot) → slot_of key es ≡ None → first_idle_of key now es ≡ Some e
-      → P (Absent (Some (port_of e)), without e.0 es)) → P (find_within most key now es)
-  by_find P same gives = of_slot (slot_of key es) refl
+      → P (Absent (Some (port_of e)), without e.0 es))
+      → (slot_of key es ≡ None → is_full most key es ≡ true → P (Absent None, es)) → P (find_within most key now es)
+  by_find P same gives stays = of_slot (slot_of key es) refl
     where
-      of_idle : (b : Option (Endpoint × Slot)) → slot_of key es ≡ None → first_idle_of key now es ≡ b
-          → P (given_up key now es b)
-      of_idle None none q = same
-      of_idle (Some e) none q = gives e none q
+      of_idle : (b : Option (Endpoint × Slot)) → slot_of key es ≡ None → is_full most key es ≡ true
+          → first_idle_of key now es ≡ b → P (given_up es b)
+      of_idle None none full q = stays none full
+      of_idle (Some e) none full q = gives e none q
 
-      of_full : (full : Bool) → slot_of key es ≡ None
-          → P (if full then given_up key now es (first_idle_of key now es) else find key now es)
-      of_full true none = of_idle (first_idle_of key now es) none refl
-      of_full false none = same
+      of_full : (full : Bool) → slot_of key es ≡ None → is_full most key es ≡ full
+          → P (if full then given_up es (first_idle_of key now es) else find key now es)
+      of_full true none full = of_idle (first_idle_of key now es) none full refl
+      of_full false none full = same
 
       of_slot : (a : Option Slot) → slot_of key es ≡ a → P (found_within most key now es a)
       of_slot (Some slot) q = same
-      of_slot None q = of_full (is_full most key es) q
+      of_slot None q = of_full (is_full most key es) q refl
 
   -- it binds as without a limit, or is refused
   pub by_bind : (port : ℕ) (P : Option Bind × Forwards → Type 0)

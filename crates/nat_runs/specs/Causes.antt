@@ -1,5 +1,5 @@
 -- Why a packet is counted as dropped, by the reason of the count.
-use Rattle.std.specs.Prelude.{◌≡◌, ℕ, ◌+◌, ◌*◌, ◌-◌, ◌%◌, ◌^◌, ◌<◌, ◌≤◌, ◌⊎◌, List, ◌∷◌, Option, Some, None, Ok}
+use Rattle.std.specs.Prelude.{◌≡◌, ℕ, ◌+◌, ◌*◌, ◌-◌, ◌%◌, ◌^◌, ◌<◌, ◌≤◌, ◌⊎◌, true, List, ◌∷◌, Option, Some, None, Ok}
 use Rattle.std.specs.Prelude.{Err}
 use Rattle.std.specs.Prelude.{slice_index}
 use Rattle.std.specs.Prelude.{slice_set}
@@ -30,6 +30,7 @@ use Rattle.nat_box.specs.Sentences.{Has, bound_in, IsMapping}
 use Rattle.nat_runs.specs.Classes.{IsFromInside, GoesInside}
 use Rattle.nat_runs.specs.Met.{Met, met_of}
 use Rattle.nat_runs.specs.Idle.{IsIdle}
+use Rattle.nat_runs.specs.FullHosts.{has_drawn, HasChangedNothing}
 
 -- 1 to 6: the frame is no flow, and no error of ICMP that is seen as one
 abbrev pub IsNoFlow : Settings → Packet → ℕ → Type 0
@@ -113,7 +114,8 @@ abbrev pub one_more : ℕ → Drops → Drops
 one_more reason d =
     record { counts = slice_set d.counts (reason - 1) ((slice_index d.counts (reason - 1) + 1) % 2 ^ 64) }
 
--- Each touch of variable 0 counts the packet in hand, for a reason that has its cause.
+-- Each touch of variable 0 counts the packet in hand, for a reason that has its cause. One whose host had too many
+-- mappings had changed nothing, or it had drawn a word, and then another packet of its host was quicker.
 abbrev pub DropsHaveCauses : Type 0
 DropsHaveCauses =
     (s : Settings) (threads : ℕ) (inputs : ℕ → List Packet) (x : Step NatValue) (earlier : List (Step NatValue))
@@ -123,3 +125,4 @@ DropsHaveCauses =
     × (value_after (nat_meaning s) earlier 0 ≡ Dropped d)
     × (value_after (nat_meaning s) (x ∷ earlier) 0 ≡ Dropped (one_more reason d))
     × Cause s h.packet (met_of s x.thread earlier) reason
+    × (reason ≡ 10 → HasChangedNothing s x.thread earlier ⊎ (has_drawn x.thread earlier ≡ true))

@@ -5,6 +5,9 @@ pub mod Following
 pub mod Passing
 pub mod Staying
 pub mod Used
+pub mod FullHosts
+pub mod GivingWay
+pub mod Parity
 pub mod Causes
 pub mod Inbound
 pub mod Refreshing

@@ -1,5 +1,7 @@
 //! The laws on every run of the box. Each is proved, and does nothing: a caller has it by the call.
 ghost use Rattle.nat_runs.specs.Passing.{EachPasses, NoneVanishes, NoneVanishesAtRest};
+ghost use Rattle.nat_runs.specs.GivingWay.{IdleGiveWay};
+ghost use Rattle.nat_runs.specs.Parity.{NewHaveParity};
 ghost use Rattle.nat_runs.specs.Staying.{MappingsStay};
 ghost use Rattle.nat_runs.specs.Following.{FollowedByTheLine, NoneFollowedWithoutIt};
 ghost use Rattle.nat_runs.specs.Following.{TouchesAsBefore, BeginsAsBefore, HostsFollow};
@@ -12,6 +14,7 @@ ghost use Rattle.nat_runs.specs.StaticPorts.{NoneGoingOutIsDropped, OnlyTheyStar
 ghost use Rattle.nat_runs.specs.StaticPorts.{MovesAreTheSame, NoneStartsWithoutThem};
 ghost use Rattle.nat_runs.specs.Errors.{BeginsByFlow, SendsByFlow, NoneFindsPort};
 ghost use Rattle.nat_runs.specs.Errors.{OtherMovesAreTheSame};
+ghost use Rattle.nat_runs.specs.FullHosts.{DrawsHadRoom};
 ghost use Rattle.nat_runs.specs.Limits.{HostsKeepWithin, TouchesWithoutLimit, TablesWithoutLimit};
 
 /// After each move of each run, whatever its threads, its inputs and the order of its moves: each packet that a thread
@@ -22,6 +25,21 @@ pub fn no_packet_vanishes()
     ensures each { EachPasses }
     ensures always { NoneVanishes }
     ensures at_rest { NoneVanishesAtRest }
+{}
+
+/// Idle mappings give way, at each touch of a forward table by a packet from inside, at the time that it was told. When
+/// it looks for its mapping, before it draws a word, it leaves no mapping of its own endpoint that was idle; and where
+/// its endpoint had none, and one of the table was idle that may give way to it, one that was idle is gone. Where hosts
+/// have a limit, and its own has reached it, only those of this host may. Each mapping of its endpoint that it leaves
+/// was last used at this time, or it was there and was used later.
+pub fn idle_mappings_give_way()
+    ensures { IdleGiveWay }
+{}
+
+/// A mapping that a step makes has the parity of its inside port, if a port of this parity and of its protocol was free
+/// when the step's packet touched the pool (RFC 4787, REQ-4).
+pub fn new_mappings_keep_parity()
+    ensures { NewHaveParity }
 {}
 
 /// At each step each mapping stays, with its port, or it was idle at the time that the packet was told: not used for
@@ -57,9 +75,10 @@ pub fn what_comes_in_found_a_used_mapping()
 /// Each drop that is counted has the cause of its reason: the frame is no flow (1 to 6), or a stray (9); its endpoint
 /// had no mapping or an idle one, and no port of its protocol was free (8); nothing was bound to the port that it goes
 /// to, or only an idle mapping (7); its host had as many mappings of its protocol as it may have, and its endpoint none
-/// (10). So what comes to a port with a used mapping is let in, whatever its source (RFC 4787, REQ-8,
-/// endpoint-independent filtering). An error of ICMP is a stray where it is about no packet that the box may have
-/// translated, and else found no used mapping.
+/// (10). A packet that is dropped for this last reason changed nothing before, so it took no port and nobody's mapping
+/// went; or it drew a word, and then another packet of its host was quicker. So what comes to a port with a used
+/// mapping is let in, whatever its source (RFC 4787, REQ-8, endpoint-independent filtering). An error of ICMP is a
+/// stray where it is about no packet that the box may have translated, and else found no used mapping.
 pub fn drops_have_their_causes()
     ensures { DropsHaveCauses }
 {}
@@ -97,10 +116,13 @@ pub fn static_ports_stay()
 
 /// After each move of each run, whatever its threads, its inputs and the order of its moves: where hosts have a limit,
 /// no host has more mappings of a protocol, over all tables, than it may have, or than it has static ports (`within`;
-/// RFC 6888, REQ-4). Where they have none, each touch is that of the table of moves alone, and a mapping stands in the
+/// RFC 6888, REQ-4). A packet draws a word, and then takes a port, only where its host had room when the packet looked
+/// for its mapping: fewer mappings of the protocol than it may have, or an idle one of its own, which gives way
+/// (`room`). Where hosts have no limit, each touch is that of the table of moves alone, and a mapping stands in the
 /// table of its whole endpoint (`touches`, `tables`).
 pub fn hosts_keep_within_their_limit()
     ensures within { HostsKeepWithin }
+    ensures room { DrawsHadRoom }
     ensures touches { TouchesWithoutLimit }
     ensures tables { TablesWithoutLimit }
 {}

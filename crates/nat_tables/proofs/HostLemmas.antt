@@ -12,12 +12,13 @@ use Rattle.nat_tables.specs.declared.entries.Bind.{Bind}
 use Rattle.nat_tables.specs.declared.host_counts.Host.{Host}
 use Rattle.nat_tables.specs.Keys.{same_endpoint}
 use Rattle.nat_tables.specs.Ports.{one_if}
-use Rattle.nat_tables.specs.Forwards.{Forwards, slot_of, refresh, mark, without, first_idle, without_idle, total}
+use Rattle.nat_tables.specs.Forwards.{Forwards, is_idle, slot_of, refresh, mark, without, first_idle, without_idle, total}
 use Rattle.nat_tables.specs.Forwards.{idle_taken, find_or_bind, bound, keep, kept_by, kept_slot}
 use Rattle.nat_tables.specs.Hosts.{is_of_host, count_of, first_idle_of}
 use Rattle.nat_tables.specs.HostCounts.{same_host, counted, host_count, AreCounts, HasOneMore, row_is_of_host}
 use Rattle.nat_tables.specs.Rows.{present, row_at}
-use Rattle.nat_tables.specs.Idling.{row_is_idle}
+use Rattle.nat_tables.specs.Idling.{row_is_idle, NoneIsIdle, IsFirstIdle}
+use Rattle.nat_tables.proofs.IdleLemmas.{none_is, later_first}
 use Rattle.nat_tables.proofs.Counting.{total_refresh, total_marked, total_without, total_without_idle, total_append}
 
 -- What a host has is a sum over the mappings
@@ -209,3 +210,40 @@ idle_next key now rows at =
     idle_on key now rows at
     ∙ ap (λ (n : ℕ). if row_is_of_host key (row_at rows at) && row_is_idle now (row_at rows at) then row_at rows at
     else first_idle_of key now (present (drop n rows))) next
+
+-- The rows before the first idle one have no idle mapping of the host
+
+none_of_host : (key : Endpoint) (now : ℕ) (es : Forwards) → first_idle now es ≡ None → first_idle_of key now es ≡ None
+none_of_host key now [] none = refl
+none_of_host key now (e ∷ es) none =
+    by (is_idle now e) (is_of_host key.protocol key.address e.0) refl none (none_of_host key now es)
+  where
+    by : (idle of : Bool) → is_idle now e ≡ idle → (if idle then Some e else first_idle now es) ≡ None
+        → (first_idle now es ≡ None → first_idle_of key now es ≡ None)
+        → (if of && is_idle now e then Some e else first_idle_of key now es) ≡ None
+    by true of q is rest = absurd (cc)
+    by false true q is rest = rw q (rest is)
+    by false false q is rest = rest is
+
+pub no_row_of_host : (key : Endpoint) (now : ℕ) (rows : List (Option (Endpoint × Slot))) → NoneIsIdle now rows
+    → first_idle_of key now (present rows) ≡ None
+no_row_of_host key now rows none = none_of_host key now (present rows) (none_is now rows none)
+
+skipped : (key : Endpoint) (now : ℕ) (e : Endpoint × Slot) (es : Forwards) → is_idle now e ≡ false
+    → first_idle_of key now (e ∷ es) ≡ first_idle_of key now es
+skipped key now e es busy = by (is_of_host key.protocol key.address e.0)
+  where
+    by : (of : Bool)
+        → (if of && is_idle now e then Some e else first_idle_of key now es) ≡ first_idle_of key now es
+    by true = rw busy refl
+    by false = refl
+
+pub idle_from : (key : Endpoint) (now : ℕ) (rows : List (Option (Endpoint × Slot))) (at : ℕ) → IsFirstIdle now rows at
+    → first_idle_of key now (present (drop at rows)) ≡ first_idle_of key now (present rows)
+idle_from key now [] zero first = refl
+idle_from key now [] (suc at) first = refl
+idle_from key now (row ∷ rows) zero first = refl
+idle_from key now (None ∷ rows) (suc at) first = idle_from key now rows at (later_first now None rows at first)
+idle_from key now (Some e ∷ rows) (suc at) first =
+    idle_from key now rows at (later_first now (Some e) rows at first)
+    ∙ sym (skipped key now e (present rows) (first.others 0 (omega arith)))

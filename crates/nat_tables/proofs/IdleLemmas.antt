@@ -180,9 +180,9 @@ none_is now [] none = refl
 none_is now (None ∷ rows) none = none_is now rows (λ k. none (suc k))
 none_is now (Some e ∷ rows) none = rw (none 0) (none_is now rows (λ k. none (suc k)))
 
-first_behind : (now : ℕ) (row : Row) (rows : List Row) (at : ℕ) → IsFirstIdle now (row ∷ rows) (suc at)
+pub later_first : (now : ℕ) (row : Row) (rows : List Row) (at : ℕ) → IsFirstIdle now (row ∷ rows) (suc at)
     → IsFirstIdle now rows at
-first_behind now row rows at first = record {
+later_first now row rows at first = record {
   idle = first.idle;
   others = λ k less. first.others (suc k) (omega arith);
 }
@@ -192,19 +192,19 @@ pub first_is : (now : ℕ) (rows : List Row) (at : ℕ) (entry : Endpoint × Slo
 first_is now [] at entry first is = absurd (cc)
 first_is now (None ∷ rows) zero entry first is = absurd (cc)
 first_is now (Some e ∷ rows) zero entry first is = rw first.idle is
-first_is now (None ∷ rows) (suc at) entry first is = first_is now rows at entry (first_behind now None rows at first) is
+first_is now (None ∷ rows) (suc at) entry first is = first_is now rows at entry (later_first now None rows at first) is
 first_is now (Some e ∷ rows) (suc at) entry first is =
-    rw (first.others 0 (omega arith)) (first_is now rows at entry (first_behind now (Some e) rows at first) is)
+    rw (first.others 0 (omega arith)) (first_is now rows at entry (later_first now (Some e) rows at first) is)
 
 pub first_removed : (now : ℕ) (rows : List Row) (at : ℕ) → IsFirstIdle now rows at
     → without_idle now (present rows) ≡ present (set rows at None)
 first_removed now [] at first = absurd (let h = first.idle in cc)
 first_removed now (None ∷ rows) zero first = absurd (let h = first.idle in cc)
 first_removed now (Some e ∷ rows) zero first = rw first.idle refl
-first_removed now (None ∷ rows) (suc at) first = first_removed now rows at (first_behind now None rows at first)
+first_removed now (None ∷ rows) (suc at) first = first_removed now rows at (later_first now None rows at first)
 first_removed now (Some e ∷ rows) (suc at) first =
     rw (first.others 0 (omega arith))
-    (ap (λ rest. e ∷ rest) (first_removed now rows at (first_behind now (Some e) rows at first)))
+    (ap (λ rest. e ∷ rest) (first_removed now rows at (later_first now (Some e) rows at first)))
 
 -- an idle row is not empty
 pub idle_some : (now : ℕ) (rows : List Row) (at : ℕ) → IsFirstIdle now rows at → None ≡ row_at rows at → ⊥

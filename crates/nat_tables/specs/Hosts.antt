@@ -29,15 +29,16 @@ first_idle_of key now [] = None
 first_idle_of key now (e ∷ es) =
     if is_of_host key.protocol key.address e.0 && is_idle now e then Some e else first_idle_of key now es
 
--- A host that has as many as it may have gives up one that is idle, if it has one.
-abbrev pub given_up : Endpoint → ℕ → Forwards → Option (Endpoint × Slot) → Find × Forwards
-given_up key now es (Some e) = (Absent (Some (port_of e)), without e.0 es)
-given_up key now es None = find key now es
+-- A host that has as many as it may have gives up the first of its own that is idle. Where it has none, all stay: an
+-- idle one of another host, or of the other protocol, is of no use to it.
+abbrev pub given_up : Forwards → Option (Endpoint × Slot) → Find × Forwards
+given_up es (Some e) = (Absent (Some (port_of e)), without e.0 es)
+given_up es None = (Absent None, es)
 
 abbrev pub found_within : ℕ → Endpoint → ℕ → Forwards → Option Slot → Find × Forwards
 found_within most key now es (Some slot) = find key now es
 found_within most key now es None =
-    if is_full most key es then given_up key now es (first_idle_of key now es) else find key now es
+    if is_full most key es then given_up es (first_idle_of key now es) else find key now es
 
 -- What an outbound packet finds of its source, where each host has at most so many mappings.
 abbrev pub find_within : ℕ → Endpoint → ℕ → Forwards → Find × Forwards

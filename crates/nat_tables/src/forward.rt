@@ -1,5 +1,5 @@
 ghost use Rattle.std.specs.Prelude.{◌≡◌, [], ◌∷◌, ◌++◌, Some, None, IfOk, OnOk, OnErr, MatchOption};
-ghost use Rattle.std.specs.Prelude.{ℕ, ◌+◌, ◌^◌, ◌<◌, ◌≤◌, false, length};
+ghost use Rattle.std.specs.Prelude.{ℕ, ◌+◌, ◌^◌, ◌<◌, ◌≤◌, false, length, drop};
 ghost use Rattle.nat_tables.specs.Forwards.{slot_of, find, idle_removed, find_or_bind, refresh};
 ghost use Rattle.nat_tables.specs.Forwards.{without, lives, mapping_at, first_idle, mark, keep};
 ghost use Rattle.nat_tables.specs.Forwards.{with_phase, idle_taken};
@@ -87,6 +87,24 @@ fn first_idle(slots: &FirstSeen<Endpoint, Slot>, busy: &mut Times, now: u64) -> 
             return Some(at);
         }
         busy.set(at, busy_until(row));
+    }
+    None
+}
+
+/// The first mapping of the endpoint's host that is idle, of those in this row and the later ones.
+fn first_idle_from(
+    slots: &FirstSeen<Endpoint, Slot>,
+    first: usize,
+    key: &Endpoint,
+    now: u64,
+) -> Option<(Endpoint, Slot)>
+    ensures { result ≡ first_idle_of key.now now (present (drop first slots.now)) }
+{
+    for at in first..slots.rows() {
+        let row = slots.row(at);
+        if is_of_host(key, row) && is_idle(row, now) {
+            return row;
+        }
     }
     None
 }
@@ -319,17 +337,14 @@ impl Forward {
         count
     }
 
-    /// The first of the mappings of the endpoint's host that is idle. It looks at each row.
-    pub(crate) fn first_idle_of(&self, key: &Endpoint, now: u64) -> Option<(Endpoint, Slot)>
-        ensures { result ≡ first_idle_of key.now now self.now }
+    /// The first of the mappings of the endpoint's host that is idle. It looks at no row where no mapping is idle, and
+    /// else at those from the first idle one on.
+    pub(crate) fn first_idle_of(&mut self, key: &Endpoint, now: u64) -> Option<(Endpoint, Slot)>
+        ensures first { result ≡ first_idle_of key.now now self.old }
+        ensures same { self.new ≡ self.old }
     {
-        for at in 0..self.slots.rows() {
-            let row = self.slots.row(at);
-            if is_of_host(key, row) && is_idle(row, now) {
-                return row;
-            }
-        }
-        None
+        let first = first_idle(&self.slots, &mut self.busy_until, now)?;
+        first_idle_from(&self.slots, first, key, now)
     }
 
     /// The mapping at an index, in first-seen order. None exactly where the index is past the last one.

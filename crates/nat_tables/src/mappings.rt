@@ -154,13 +154,13 @@ impl Mappings {
     }
 
     /// What is found of a source that has no mapping and whose host has as many as it may have: the first of the host's
-    /// that is idle is removed, in first-seen order, if there is one.
+    /// that is idle is removed, in first-seen order, if there is one. Where there is none, no mapping is, whoever has it.
     fn find_of_full(&mut self, key: &Endpoint, now: u64) -> Find
         ensures { (result, self.new)
-            ≡ given_up key.now now self.old (first_idle_of key.now now self.old) }
+            ≡ given_up self.old (first_idle_of key.now now self.old) }
     {
         let Some((own, slot)) = self.table.first_idle_of(key, now) else {
-            return self.find(key, now);
+            return Find::Absent(None);
         };
         self.remove(&own);
         Find::Absent(Some(Freed {
@@ -170,7 +170,7 @@ impl Mappings {
     }
 
     /// What an outbound packet finds of its source, where a host may have so many mappings. A host that has them gives
-    /// up one of its own that is idle for a new one, if it has one.
+    /// up one of its own that is idle for a new one; where it has none that is idle, nothing is changed.
     pub fn find_within(&mut self, most: u32, key: &Endpoint, now: u64) -> Find
         ensures { (result, self.new) ≡ find_within most key.now now self.old }
     {
