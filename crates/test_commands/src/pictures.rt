@@ -3,9 +3,8 @@ use crate::commands::{Case, Fault, comes_to};
 use crate::large::SETTLED;
 use crate::limits::repeat_behind;
 use job_top::Status;
-use plain_text::{Limit, NoMemory};
+use plain_text::Limit;
 use sample_frames::TWO_PACKETS;
-use std::alloc::Global;
 use std::test::Fail;
 
 /// A picture of a run with no events, whose last line is this report.
@@ -35,22 +34,34 @@ fn draws_100_000_events(rt: HostRuntime) -> Result<(), Fail> {
     Ok(())
 }
 
-/// Whether the run of such a command would pass the limit of moves, and it writes nothing.
-fn stops<'a>(alloc: Global, words: &'a [&'a str]) -> Result<bool, NoMemory> {
-    let case = Case {
-        files: &[("box", b"box monitor\n"), ("script", SETTLED)],
-        commands: &[&["make", "1", "65536", "in"], words],
-        status: Status::TooLarge(Limit::Moves),
-        left: &[("out", None)],
-        report: b"made 65536\n",
-        ..EMPTY
-    };
-    comes_to(alloc, Fault::Nothing, &case)
+/// A picture of a run that would pass the limit of moves: nothing is written.
+const TOO_MANY_MOVES: Case<'static> = Case {
+    files: &[("box", b"box monitor\n"), ("script", SETTLED)],
+    commands: &[
+        &["make", "1", "65536", "in"],
+        &["picture", "box", "in", "script", "out"],
+    ],
+    status: Status::TooLarge(Limit::Moves),
+    left: &[("out", None)],
+    report: b"made 65536\n",
+    is_whole_report: true,
+};
+
+#[test]
+fn pictures_stop_at_2_000_000_moves(rt: HostRuntime) -> Result<(), Fail> {
+    assert!(rt; comes_to(rt.alloc(), Fault::Nothing, &TOO_MANY_MOVES)?);
+    Ok(())
 }
 
 #[test]
-fn pictures_and_traces_stop_at_2_000_000_moves(rt: HostRuntime) -> Result<(), Fail> {
-    assert!(rt; stops(rt.alloc(), &["picture", "box", "in", "script", "out"])?);
-    assert!(rt; stops(rt.alloc(), &["trace", "box", "in", "script", "out"])?);
+fn traces_stop_at_2_000_000_moves(rt: HostRuntime) -> Result<(), Fail> {
+    let case = Case {
+        commands: &[
+            &["make", "1", "65536", "in"],
+            &["trace", "box", "in", "script", "out"],
+        ],
+        ..TOO_MANY_MOVES
+    };
+    assert!(rt; comes_to(rt.alloc(), Fault::Nothing, &case)?);
     Ok(())
 }
