@@ -377,7 +377,7 @@ time_noted : (s : Settings) (r : Trail) (met : Option (List ℕ × List ℕ)) (p
 time_noted s r met p HearsTime n v table e k = absurd (cc)
 time_noted s r met p FindsConnection n v table e k = k.clock
 time_noted s r met p LowersIdle n v table e k = k.0.clock
-time_noted s r met p RaisesLeast n v table e k = k.clock
+time_noted s r met p RaisesLeast n v table e k = k.0.clock
 time_noted s r met p Connects n v table e k = k.0.clock
 time_noted s r met p LowersVain n v table e k = let one : 1 ≡ v = cc in absurd (omega arith)
 time_noted s r met p LowersSpare n v table e k = let one : 1 ≡ v = cc in absurd (omega arith)
