@@ -17,7 +17,7 @@ use Rattle.nat_tables.specs.declared.phase.Phase.TheVariants.{Plain, Opening, Es
 use Rattle.nat_tables.specs.declared.phase.Phase.TheVariants.{EndedByClient, EndedByServer, Kept}
 use Rattle.nat_tables.specs.Keys.{same_endpoint}
 use Rattle.nat_tables.specs.Forwards.{Forwards, slot_of, is_idle, first_idle, refreshed, refresh, in_phase}
-use Rattle.nat_tables.specs.Forwards.{without, found_there, found, bound, lives, lives_at, AreMappings}
+use Rattle.nat_tables.specs.Forwards.{without, without_idle, found_there, found, bound, lives, lives_at, AreMappings}
 use Rattle.nat_tables.proofs.Counting.{same_is}
 use Rattle.nat_tables.proofs.Keeping.{may_slot}
 use Rattle.flow_boxes.proofs.Fitting.{same_self}
@@ -216,8 +216,12 @@ tells_finish flags rst fin = rw (is_eq (bit_and flags 4) 0 rst, not_zero (bit_an
 
 pub tells_open : (flags : ℕ) → IsClear 4 flags → IsClear 1 flags → IsSet 2 flags → IsClear 16 flags
     → tells_of flags ≡ Opens
-tells_open flags rst fin syn ack = rw (is_eq (bit_and flags 4) 0 rst, is_eq (bit_and flags 1) 0 fin,
-    not_zero (bit_and flags 2) syn, is_eq (bit_and flags 16) 0 ack) refl
+tells_open flags rst fin syn ack = rw (
+  is_eq (bit_and flags 4) 0 rst,
+  is_eq (bit_and flags 1) 0 fin,
+  not_zero (bit_and flags 2) syn,
+  is_eq (bit_and flags 16) 0 ack,
+) refl
 
 abbrev OpensOrNothing : Tells → Type 0
 OpensOrNothing t = (t ≡ Opens) ⊎ (t ≡ Nothing)
@@ -501,7 +505,7 @@ module _ (s : Settings) (r : Trail) (met_loads : Option (List ℕ × List ℕ)) 
       by true q = inr (
         eqb-true _ _ q,
         subst (λ (t : Tells). SegmentFollows seconds flags n.class old (phase_told seconds n.class t old)) (sym is)
-        (segment_follows seconds n.class flags old),
+            (segment_follows seconds n.class flags old),
       )
       by false q = inl (λ e. absurd (let z : (n.client.protocol == 6) ≡ true = is_eq n.client.protocol 6 e in cc), refl)
 
