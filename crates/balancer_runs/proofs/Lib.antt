@@ -12,3 +12,4 @@ pub mod Touching
 pub mod GivingWay
 pub mod Serving
 pub mod Ending
+pub mod Saying

@@ -9,3 +9,4 @@ pub mod Refreshing
 pub mod GivingWay
 pub mod Serving
 pub mod Ending
+pub mod Saying

@@ -9,6 +9,7 @@ ghost use Rattle.balancer_runs.specs.Refreshing.{OnlyClientsRefresh, ClientsRefr
 ghost use Rattle.balancer_runs.specs.Choosing.{LeastLoadsAreRaised, NewConnectionsHaveLeastLoad};
 ghost use Rattle.balancer_runs.specs.GivingWay.{IdleGiveWay};
 ghost use Rattle.balancer_runs.specs.Ending.{SidesAreHeard, EndedGiveWay, ResetsRemove};
+ghost use Rattle.balancer_runs.specs.Saying.{PhasesAreSaid};
 ghost use Rattle.balancer_runs.specs.Serving.{SentAreOfService, StraysAreOfNone};
 
 /// In each run, whatever its threads, its inputs and the order of its moves: each packet that was taken went out, was
@@ -82,13 +83,14 @@ pub fn idle_connections_give_way()
     ensures { IdleGiveWay }
 {}
 
-/// In each run on packets of bytes: where TCP connections are followed, RST from either side ends a connection; FIN from
-/// one side leaves it half closed, and FIN from the other one too ends it; other packets, and any on one that has ended,
-/// leave its phase. So it is at each touch of a table by a packet of its client, and by one of its backend while it is
-/// not idle (`heard`). A connection that has ended gives way at once to the one that its client opens, by SYN without
-/// ACK, FIN and RST, in the first touch of this packet (`gives_way`). Where connections are not followed, RST from the
-/// client or from the backend removes one that is not idle (`removed`).
+/// In each run on packets of bytes: where TCP connections are followed, one has ended exactly where a RST came from
+/// either side since it began, or a FIN from each; with FIN from one side it is half closed (`said`). What a side says
+/// counts at each touch of a table by a packet of its client, and by one of its backend while it is not idle (`heard`).
+/// A connection that has ended gives way at once to the one that its client opens, by SYN without ACK, FIN and RST, in
+/// the first touch of this packet (`gives_way`). Where connections are not followed, RST from the client or from the
+/// backend removes one that is not idle (`removed`).
 pub fn connections_end_as_both_sides_say()
+    ensures said { PhasesAreSaid }
     ensures heard { SidesAreHeard }
     ensures gives_way { EndedGiveWay }
     ensures removed { ResetsRemove }
