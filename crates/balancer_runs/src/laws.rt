@@ -98,9 +98,8 @@ pub fn connections_end_as_both_sides_say()
 
 /// In each run on packets of bytes, each packet that is sent out went to the virtual address and port, or came from the
 /// address and port of a backend (`sent`). And each drop that is counted is for the reason that the packet has: 1 to 6
-/// where its frame is no flow, 9, a stray, where it is a flow of neither kind, and 7 where it is one of these and has no
-/// connection. So no packet to the virtual address and port is a stray, and no other one of no backend is anything else
-/// (`strays`).
+/// where its frame is no flow, 9, a stray, where it is a flow of neither kind, and 7, no connection, where it is of one
+/// of them. So a packet to the virtual address and port is never a stray, nor is one from a backend (`strays`).
 pub fn what_is_translated_is_of_the_service()
     ensures sent { SentAreOfService }
     ensures strays { StraysAreOfNone }

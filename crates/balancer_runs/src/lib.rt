@@ -1,6 +1,6 @@
 //! The laws of all runs of the load balancer: where its packets are, how long its connections stay and how they end,
-//! why it drops packets, and which backends new connections have. Each is proved, and does nothing: a caller has it by
-//! the call.
+//! which packets it translates, why it drops the others, and which backends new connections have. Each is proved, and
+//! does nothing: a caller has it by the call.
 #![tactic(auto)]
 
 mod laws;
