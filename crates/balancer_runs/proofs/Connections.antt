@@ -372,12 +372,12 @@ module _ (s : Settings) (r : Trail) (met : Option (List ℕ × List ℕ)) (p : P
   touch_brings Ends x v fits = no_new Ends (connections_in x)
 
 -- the time noted is the one that was told, wherever a table is touched
-time_noted : (s : Settings) (r : Trail) (met : Option (List ℕ × List ℕ)) (p : Packet) (place : Place) (n : Noted)
+pub time_noted : (s : Settings) (r : Trail) (met : Option (List ℕ × List ℕ)) (p : Packet) (place : Place) (n : Noted)
     (v : ℕ) → 2 ≤ v → next_move s place n ≡ Access v → KnownAt s r met p place n → r.clock ≡ Some n.time
 time_noted s r met p HearsTime n v table e k = absurd (cc)
 time_noted s r met p FindsConnection n v table e k = k.clock
 time_noted s r met p LowersIdle n v table e k = k.0.clock
-time_noted s r met p RaisesLeast n v table e k = k.clock
+time_noted s r met p RaisesLeast n v table e k = k.0.clock
 time_noted s r met p Connects n v table e k = k.0.clock
 time_noted s r met p LowersVain n v table e k = let one : 1 ≡ v = cc in absurd (omega arith)
 time_noted s r met p LowersSpare n v table e k = let one : 1 ≡ v = cc in absurd (omega arith)
@@ -387,7 +387,7 @@ time_noted s r met p SendsOut n v table e k = absurd (cc)
 time_noted s r met p Ends n v table e k = absurd (cc)
 
 -- a connection is in a table
-in_table : (s : Settings) (v : ℕ) (x : BalancerValue) (client : Endpoint) (slot : Slot) → Fits s v x
+pub in_table : (s : Settings) (v : ℕ) (x : BalancerValue) (client : Endpoint) (slot : Slot) → Fits s v x
     → slot_of client (connections_in x) ≡ Some slot → 2 ≤ v
 in_table s v (Dropped d) client slot fits is = absurd (cc)
 in_table s v (Loaded loads) client slot fits is = absurd (cc)

@@ -1,13 +1,14 @@
 -- Connections are followed as the settings say.
-use Rattle.std.proofs.Common.{◌≡◌, ℕ, ◌+◌, ◌<◌, Bool, true, false, List, [], ◌∷◌, ◌++◌, refl, sym, ap, ◌∙◌, subst}
+use Rattle.std.proofs.Common.{◌≡◌, ◌≢◌, ℕ, ◌+◌, ◌<◌, Bool, true, false, List, [], ◌∷◌, ◌++◌, refl, sym, ap, ◌∙◌, subst}
 use Rattle.std.proofs.Common.{◌⊎◌, inl, inr, Option, Some, None}
-use Rattle.std.specs.Prelude.{nat_eq, cond, ◌==◌, ◌&&◌, not, if◌then◌else◌}
+use Rattle.std.specs.Prelude.{nat_eq, cond, ◌==◌, ◌&&◌, not, if◌then◌else◌, bit_and}
 use Rattle.std.proofs.lemmas.Bool.{eqb-true}
 use Rattle.plain_text.specs.declared.packet.Packet.{Packet}
 use Rattle.packet_headers.specs.declared.flow.Flow.{Flow}
 use Rattle.plain_machine.specs.Machine.{Hand, Thread, Effect, Takes, Touches, Looks, HearsClock, HearsDraw, Sends}
 use Rattle.plain_machine.specs.Machine.{Ends as EndsIt}
 use Rattle.plain_machine.specs.History.{Step, act_of, left_by, thread_after, value_after, IsHistory}
+use Rattle.plain_machine.proofs.Histories.{is_eq}
 use Rattle.plain_machine.proofs.Bounds.{values_fit}
 use Rattle.nat_tables.specs.declared.entries.Endpoint.{Endpoint}
 use Rattle.nat_tables.specs.declared.slot.Slot.{Slot}
@@ -16,7 +17,7 @@ use Rattle.nat_tables.specs.declared.phase.Phase.TheVariants.{Plain, Opening, Es
 use Rattle.nat_tables.specs.declared.phase.Phase.TheVariants.{EndedByClient, EndedByServer, Kept}
 use Rattle.nat_tables.specs.Keys.{same_endpoint}
 use Rattle.nat_tables.specs.Forwards.{Forwards, slot_of, is_idle, first_idle, refreshed, refresh, in_phase}
-use Rattle.nat_tables.specs.Forwards.{without, found_there, found, bound, lives, lives_at, AreMappings}
+use Rattle.nat_tables.specs.Forwards.{without, without_idle, found_there, found, bound, lives, lives_at, AreMappings}
 use Rattle.nat_tables.proofs.Counting.{same_is}
 use Rattle.nat_tables.proofs.Keeping.{may_slot}
 use Rattle.flow_boxes.proofs.Fitting.{same_self}
@@ -27,12 +28,12 @@ use Rattle.balancer_box.specs.declared.place.Place.TheVariants.{SendsOut, Lowers
 use Rattle.balancer_box.specs.declared.place.Class.{Class}
 use Rattle.balancer_box.specs.declared.place.Class.TheVariants.{Client, Answer}
 use Rattle.balancer_box.specs.declared.place.Tells.{Tells}
-use Rattle.balancer_box.specs.declared.place.Tells.TheVariants.{Nothing}
+use Rattle.balancer_box.specs.declared.place.Tells.TheVariants.{Nothing, Opens, Finishes, Resets}
 use Rattle.balancer_box.specs.declared.place.Noted.{Noted}
 use Rattle.balancer_box.specs.declared.value.BalancerValue.{BalancerValue}
 use Rattle.balancer_box.specs.declared.value.BalancerValue.TheVariants.{Dropped, Loaded, Connected}
 use Rattle.balancer_box.specs.declared.place.Goes.{Goes}
-use Rattle.balancer_box.specs.Connections.{closed, without_if, phase_told}
+use Rattle.balancer_box.specs.Connections.{closed, without_if, phase_finished, phase_told}
 use Rattle.balancer_box.specs.Places.{place_numbered}
 use Rattle.balancer_box.specs.Balancer.{Settings, is_virtual, backend_at, tells_of, tells_by, begun_answer, begun_flow}
 use Rattle.balancer_box.specs.Balancer.{begins, goes_to, after_find, after_bind, after_check, phase_then}
@@ -47,7 +48,8 @@ use Rattle.balancer_box.proofs.CountLemmas.{plain_of}
 use Rattle.balancer_box.proofs.Making.{Made, made}
 use Rattle.balancer_runs.specs.Choosing.{loads_met}
 use Rattle.balancer_runs.specs.Following.{IsFollowedBy, FollowedByTheLine, NoneFollowedWithoutIt, touched_before}
-use Rattle.balancer_runs.specs.Following.{WasPlace, TouchesAsBefore, BeginsAsBefore, phase_by, HadPhase, IsOfSide}
+use Rattle.balancer_runs.specs.Following.{WasPlace, TouchesAsBefore, BeginsAsBefore, IsSet, IsClear, other_side}
+use Rattle.balancer_runs.specs.Following.{half_closed, Follows as SegmentFollows, PhaseGoesOn, HadPhase, IsOfSide}
 use Rattle.balancer_runs.specs.Following.{IsFollowedOn, SidesFollow}
 use Rattle.balancer_runs.proofs.Tables.{other_refresh, other_in_phase, other_without, other_append, none_without}
 use Rattle.balancer_runs.proofs.Tables.{without_idle_had}
@@ -197,27 +199,129 @@ begins_as_before s none flow = by (is_virtual s flow.dest flow.dest_port) refl
     by true q = rw q nothing
     by false q = rw q (by_backend (backend_at s.backends flow.source flow.source_port))
 
+-- What a segment tells, by its control bits
+
+not_zero : (k : ℕ) → k ≢ 0 → (k == 0) ≡ false
+not_zero k some = by (k == 0) refl
+  where
+    by : (b : Bool) → (k == 0) ≡ b → (k == 0) ≡ false
+    by true q = absurd (some (eqb-true _ _ q))
+    by false q = q
+
+tells_reset : (flags : ℕ) → IsSet 4 flags → tells_of flags ≡ Resets
+tells_reset flags rst = rw (not_zero (bit_and flags 4) rst) refl
+
+tells_finish : (flags : ℕ) → IsClear 4 flags → IsSet 1 flags → tells_of flags ≡ Finishes
+tells_finish flags rst fin = rw (is_eq (bit_and flags 4) 0 rst, not_zero (bit_and flags 1) fin) refl
+
+pub tells_open : (flags : ℕ) → IsClear 4 flags → IsClear 1 flags → IsSet 2 flags → IsClear 16 flags
+    → tells_of flags ≡ Opens
+tells_open flags rst fin syn ack = rw (
+  is_eq (bit_and flags 4) 0 rst,
+  is_eq (bit_and flags 1) 0 fin,
+  not_zero (bit_and flags 2) syn,
+  is_eq (bit_and flags 16) 0 ack,
+) refl
+
+abbrev OpensOrNothing : Tells → Type 0
+OpensOrNothing t = (t ≡ Opens) ⊎ (t ≡ Nothing)
+
+tells_else : (flags : ℕ) → IsClear 4 flags → IsClear 1 flags → OpensOrNothing (tells_of flags)
+tells_else flags rst fin = rw (is_eq (bit_and flags 4) 0 rst, is_eq (bit_and flags 1) 0 fin)
+    (by (bit_and flags 2 == 0) (bit_and flags 16 == 0))
+  where
+    by : (c d : Bool) → OpensOrNothing (if c then Nothing else if d then Opens else Nothing)
+    by true d = inr refl
+    by false true = inl refl
+    by false false = inr refl
+
+tells_clear : (flags : ℕ) → IsClear 4 flags → (tells_of flags ≡ Finishes) ⊎ OpensOrNothing (tells_of flags)
+tells_clear flags rst = by (bit_and flags 1 == 0) refl
+  where
+    by : (b : Bool) → (bit_and flags 1 == 0) ≡ b → (tells_of flags ≡ Finishes) ⊎ OpensOrNothing (tells_of flags)
+    by true q = inr (tells_else flags rst (eqb-true _ _ q))
+    by false q = inl (rw (is_eq (bit_and flags 4) 0 rst, q) refl)
+
+-- and what becomes of a phase
+
+module _ (seconds : ℕ) where
+  finished_first : (side : Class) → phase_finished seconds side Plain ≡ half_closed side
+  finished_first Client = refl
+  finished_first Answer = refl
+
+  finished_second : (side : Class) → phase_finished seconds side (half_closed (other_side side)) ≡ Closing seconds
+  finished_second Client = refl
+  finished_second Answer = refl
+
+  finished_again : (side : Class) → phase_finished seconds side (half_closed side) ≡ half_closed side
+  finished_again Client = refl
+  finished_again Answer = refl
+
+  finished_ended : (side : Class) → phase_finished seconds side (Closing seconds) ≡ Closing seconds
+  finished_ended Client = refl
+  finished_ended Answer = refl
+
+  told_ended : (side : Class) (t : Tells) → phase_told seconds side t (Closing seconds) ≡ Closing seconds
+  told_ended side Nothing = refl
+  told_ended side Opens = refl
+  told_ended side Finishes = finished_ended side
+  told_ended side Resets = refl
+
+  same_told : (side : Class) (t : Tells) (old : Phase) → OpensOrNothing t → phase_told seconds side t old ≡ old
+  same_told side t old (inl q) = ap (λ (u : Tells). phase_told seconds side u old) q
+  same_told side t old (inr q) = ap (λ (u : Tells). phase_told seconds side u old) q
+
+  module _ (side : Class) (flags : ℕ) (old : Phase) where
+    abbrev new_phase : Phase
+    new_phase = phase_told seconds side (tells_of flags) old
+
+    finishes : tells_of flags ≡ Finishes → new_phase ≡ phase_finished seconds side old
+    finishes q = ap (λ (t : Tells). phase_told seconds side t old) q
+
+    again : (tells_of flags ≡ Finishes) ⊎ OpensOrNothing (tells_of flags) → old ≡ half_closed side
+        → new_phase ≡ half_closed side
+    again (inl q) is = finishes q ∙ ap (phase_finished seconds side) is ∙ finished_again side
+    again (inr q) is = same_told side (tells_of flags) old q ∙ is
+
+    segment_follows : SegmentFollows seconds flags side old new_phase
+    segment_follows = record {
+      reset = λ rst. ap (λ (t : Tells). phase_told seconds side t old) (tells_reset flags rst);
+      first = λ rst fin is.
+          finishes (tells_finish flags rst fin) ∙ ap (phase_finished seconds side) is ∙ finished_first side;
+      second = λ rst fin is.
+          finishes (tells_finish flags rst fin) ∙ ap (phase_finished seconds side) is ∙ finished_second side;
+      again = λ rst is. again (tells_clear flags rst) is;
+      stays = λ rst fin. same_told side (tells_of flags) old (tells_else flags rst fin);
+      ended = λ is.
+          ap (phase_told seconds side (tells_of flags)) is ∙ told_ended side (tells_of flags);
+    }
+
 -- What a touch makes of a client's phase: the connection was there, the same, or it is the packet's, and notes it
 
-abbrev NowAt : Option ℕ → Noted → Phase → Phase
+abbrev pub NowAt : Option ℕ → Noted → Phase → Phase
 NowAt None n old = old
 NowAt (Some seconds) n old = phase_then seconds n old
 
 -- an answer's connection is to its backend
-abbrev IsItsBackend : ℕ → Noted → Class → Type 0
+abbrev pub IsItsBackend : ℕ → Noted → Class → Type 0
 IsItsBackend backend n Client = Unit {0}
 IsItsBackend backend n Answer = backend ≡ n.backend
 
-abbrev IsNow : Option ℕ → Noted → Forwards → Slot → Type 0
+abbrev pub IsNow : Option ℕ → Noted → Forwards → Slot → Type 0
 IsNow c n es slot =
     (old : Phase) × HadPhase old (slot_of n.client es) × (slot.phase ≡ NowAt c n old)
     × IsItsBackend slot.port n n.class
 
-abbrev WasOrNow : Option ℕ → Noted → Forwards → Endpoint → Slot → Type 0
+abbrev pub WasOrNow : Option ℕ → Noted → Forwards → Endpoint → Slot → Type 0
 WasOrNow c n es client slot = (slot_of client es ≡ Some slot) ⊎ ((client ≡ n.client) × IsNow c n es slot)
 
-abbrev AllWere : Option ℕ → Noted → Forwards → Forwards → Type 0
+abbrev pub AllWere : Option ℕ → Noted → Forwards → Forwards → Type 0
 AllWere c n es left = (client : Endpoint) (slot : Slot) → slot_of client left ≡ Some slot → WasOrNow c n es client slot
+
+-- and the one of the packet's client notes it
+abbrev pub AreNow : Option ℕ → Noted → Forwards → Forwards → Type 0
+AreNow c n es left =
+    AllWere c n es left × ((slot : Slot) → slot_of n.client left ≡ Some slot → IsNow c n es slot)
 
 module _ (c : Option ℕ) (n : Noted) (es : Forwards) where
   all_were : AllWere c n es es
@@ -226,14 +330,16 @@ module _ (c : Option ℕ) (n : Noted) (es : Forwards) where
   -- by a change at the packet's own client alone
   were_by : (left : Forwards)
       → ((client : Endpoint) → same_endpoint client n.client ≡ false → slot_of client left ≡ slot_of client es)
-      → ((slot : Slot) → slot_of n.client left ≡ Some slot → IsNow c n es slot) → AllWere c n es left
-  were_by left others own client slot at = by (same_endpoint client n.client) refl
+      → ((slot : Slot) → slot_of n.client left ≡ Some slot → IsNow c n es slot) → AreNow c n es left
+  were_by left others own =
+      (λ client slot at. by client slot at (same_endpoint client n.client) refl, λ slot at. own slot at)
     where
-      by : (b : Bool) → same_endpoint client n.client ≡ b → WasOrNow c n es client slot
-      by true q =
+      by : (client : Endpoint) (slot : Slot) → slot_of client left ≡ Some slot → (b : Bool)
+          → same_endpoint client n.client ≡ b → WasOrNow c n es client slot
+      by client slot at true q =
           let k : client ≡ n.client = same_is client n.client q in
           inr (k, own slot (subst (λ (x : Endpoint). slot_of x left ≡ Some slot) k at))
-      by false q = inl (sym (others client q) ∙ at)
+      by client slot at false q = inl (sym (others client q) ∙ at)
 
   had_phase : (slot : Slot) → slot_of n.client es ≡ Some slot → HadPhase slot.phase (slot_of n.client es)
   had_phase slot at = subst (HadPhase slot.phase) (sym at) refl
@@ -241,7 +347,7 @@ module _ (c : Option ℕ) (n : Noted) (es : Forwards) where
   had_plain : slot_of n.client es ≡ None → HadPhase Plain (slot_of n.client es)
   had_plain at = subst (HadPhase Plain) (sym at) refl
 
-  were_without : (May : Endpoint → Slot → Type 0) → AreMappings May es → AllWere c n es (without n.client es)
+  were_without : (May : Endpoint → Slot → Type 0) → AreMappings May es → AreNow c n es (without n.client es)
   were_without May all = were_by (without n.client es) (λ client q. other_without n.client client es q)
       (λ slot at. absurd (let none = none_without May n.client es all in cc))
 
@@ -250,7 +356,7 @@ module _ (n : Noted) (es : Forwards) where
   Its slot = IsItsBackend slot.port n n.class
 
   were_refresh : (slot : Slot) → slot_of n.client es ≡ Some slot → Its slot
-      → AllWere None n es (refresh n.client n.time es)
+      → AreNow None n es (refresh n.client n.time es)
   were_refresh slot at its = were_by None n es (refresh n.client n.time es)
       (λ client q. other_refresh n.client n.time client es q)
       (λ new there.
@@ -260,7 +366,7 @@ module _ (n : Noted) (es : Forwards) where
   were_noting : (seconds : ℕ) (slot : Slot) (left : Forwards)
       → ((client : Endpoint) → same_endpoint client n.client ≡ false → slot_of client left ≡ slot_of client es)
       → slot_of n.client left ≡ Some slot → HadPhase slot.phase (slot_of n.client es) → Its slot
-      → AllWere (Some seconds) n es (noting seconds n slot left)
+      → AreNow (Some seconds) n es (noting seconds n slot left)
   were_noting seconds slot left others at had its =
       let phase : Phase = phase_then seconds n slot.phase in
       were_by (Some seconds) n es (noting seconds n slot left)
@@ -270,26 +376,26 @@ module _ (n : Noted) (es : Forwards) where
       (slot.phase, had, ap (λ (x : Slot). x.phase) (sym e), subst Its e its)))
 
   were_used : (seconds : ℕ) (slot : Slot) → slot_of n.client es ≡ Some slot → Its slot
-      → AllWere (Some seconds) n es (noting seconds n slot (refresh n.client n.time es))
+      → AreNow (Some seconds) n es (noting seconds n slot (refresh n.client n.time es))
   were_used seconds slot at its =
       were_noting seconds (refreshed n.time slot) (refresh n.client n.time es)
       (λ client q. other_refresh n.client n.time client es q) (slot_refreshed n.client n.time slot es at)
       (had_phase (Some seconds) n es slot at) its
 
-  were_checked : (seconds : ℕ) (slot : Slot) → slot_of n.client es ≡ Some slot → Its slot
-      → AllWere (Some seconds) n es (noting seconds n slot es)
+  pub were_checked : (seconds : ℕ) (slot : Slot) → slot_of n.client es ≡ Some slot → Its slot
+      → AreNow (Some seconds) n es (noting seconds n slot es)
   were_checked seconds slot at its =
       were_noting seconds slot es (λ client q. refl) at (had_phase (Some seconds) n es slot at) its
 
   were_new : (seconds : ℕ) → slot_of n.client es ≡ None → Its (new_slot n)
-      → AllWere (Some seconds) n es (noting seconds n (new_slot n) (es ++ (n.client, new_slot n) ∷ []))
+      → AreNow (Some seconds) n es (noting seconds n (new_slot n) (es ++ (n.client, new_slot n) ∷ []))
   were_new seconds at its =
       were_noting seconds (new_slot n) (es ++ (n.client, new_slot n) ∷ [])
       (λ client q. other_append n.client (new_slot n) client es q)
       (slot_appended n.client (new_slot n) es at (same_self n.client)) (had_plain (Some seconds) n es at) its
 
   were_bound : slot_of n.client es ≡ None → Its (new_slot n)
-      → AllWere None n es (es ++ (n.client, new_slot n) ∷ [])
+      → AreNow None n es (es ++ (n.client, new_slot n) ∷ [])
   were_bound at its = were_by None n es (es ++ (n.client, new_slot n) ∷ [])
       (λ client q. other_append n.client (new_slot n) client es q)
       (λ new there.
@@ -301,56 +407,65 @@ module _ (n : Noted) (es : Forwards) where
   of_port port is Client = tt
   of_port port is Answer = is
 
-  of_client : n.class ≡ Client → (slot : Slot) → Its slot
+  pub of_client : n.class ≡ Client → (slot : Slot) → Its slot
   of_client class slot = subst (IsItsBackend slot.port n) (sym class) tt
 
   module _ (May : Endpoint → Slot → Type 0) (all : AreMappings May es) (its : (slot : Slot) → Its slot) where
+    were_idle : (c : Option ℕ) → slot_of n.client es ≡ None → AreNow c n es (without_idle n.time es)
+    were_idle c at = (
+      λ client slot there. inl (without_idle_had May n.time client slot es all there),
+      λ slot there. absurd (let had = without_idle_had May n.time n.client slot es all there in cc (had, at)),
+    )
+
+    were_same : (c : Option ℕ) → slot_of n.client es ≡ None → AreNow c n es es
+    were_same c at = (all_were c n es, λ slot there. absurd (cc (there, at)))
+
     were_found : (o : Option Slot) (idle : Option (Endpoint × Slot)) → slot_of n.client es ≡ o
-        → (let f = found n.client n.time es o idle in AllWere None n es (closed f.0 n.resets n.client f.1))
+        → (let f = found n.client n.time es o idle in AreNow None n es (closed f.0 n.resets n.client f.1))
     were_found (Some slot) idle at = by (is_idle n.time (n.client, slot))
       where
-        of_used : (b : Bool) → AllWere None n es (without_if b n.client (refresh n.client n.time es))
+        of_used : (b : Bool) → AreNow None n es (without_if b n.client (refresh n.client n.time es))
         of_used true =
-            subst (AllWere None n es) (sym (without_refreshed n.client n.time es)) (were_without None n es May all)
+            subst (AreNow None n es) (sym (without_refreshed n.client n.time es)) (were_without None n es May all)
         of_used false = were_refresh slot at (its slot)
 
         by : (b : Bool)
-            → (let f = found_there n.client n.time es slot b in AllWere None n es (closed f.0 n.resets n.client f.1))
+            → (let f = found_there n.client n.time es slot b in AreNow None n es (closed f.0 n.resets n.client f.1))
         by true = were_without None n es May all
         by false = of_used n.resets
-    were_found None (Some e) at = λ client slot there. inl (without_idle_had May n.time client slot es all there)
-    were_found None None at = all_were None n es
+    were_found None (Some e) at = were_idle None at
+    were_found None None at = were_same None at
 
-    were_finds : (c : Option ℕ) → AllWere c n es (finds c n es).0
+    pub were_finds : (c : Option ℕ) → AreNow c n es (finds c n es).0
     were_finds None = were_found (slot_of n.client es) (first_idle n.time es) refl
     were_finds (Some seconds) = by (slot_of n.client es) (first_idle n.time es) refl
       where
         of_met : (slot : Slot) (b : Bool) → slot_of n.client es ≡ Some slot
-            → AllWere (Some seconds) n es (met seconds n es slot b).0
+            → AreNow (Some seconds) n es (met seconds n es slot b).0
         of_met slot true at = were_without (Some seconds) n es May all
         of_met slot false at = were_used seconds slot at (its slot)
 
         of_there : (slot : Slot) (b : Bool) → slot_of n.client es ≡ Some slot
-            → AllWere (Some seconds) n es (met_there seconds n es slot b).0
+            → AreNow (Some seconds) n es (met_there seconds n es slot b).0
         of_there slot true at = were_without (Some seconds) n es May all
         of_there slot false at = of_met slot (gives_way n slot) at
 
         by : (o : Option Slot) (idle : Option (Endpoint × Slot)) → slot_of n.client es ≡ o
-            → AllWere (Some seconds) n es (met_by seconds n es o idle).0
+            → AreNow (Some seconds) n es (met_by seconds n es o idle).0
         by (Some slot) idle at = of_there slot (is_idle n.time (n.client, slot)) at
-        by None (Some e) at = λ client slot there. inl (without_idle_had May n.time client slot es all there)
-        by None None at = all_were (Some seconds) n es
+        by None (Some e) at = were_idle (Some seconds) at
+        by None None at = were_same (Some seconds) at
 
-    were_connects : (c : Option ℕ) → AllWere c n es (connects c n es).0
+    pub were_connects : (c : Option ℕ) → AreNow c n es (connects c n es).0
     were_connects None = by (slot_of n.client es) refl
       where
         by : (o : Option Slot) → slot_of n.client es ≡ o
-            → AllWere None n es (bound n.client n.backend n.time es o).1
+            → AreNow None n es (bound n.client n.backend n.time es o).1
         by (Some slot) at = were_refresh slot at (its slot)
         by None at = were_bound at (its (new_slot n))
     were_connects (Some seconds) = by (slot_of n.client es) refl
       where
-        by : (o : Option Slot) → slot_of n.client es ≡ o → AllWere (Some seconds) n es (connected_by seconds n es o).0
+        by : (o : Option Slot) → slot_of n.client es ≡ o → AreNow (Some seconds) n es (connected_by seconds n es o).0
         by (Some slot) at = were_used seconds slot at (its slot)
         by None at = were_new seconds at (its (new_slot n))
 
@@ -359,7 +474,7 @@ module _ (n : Noted) (es : Forwards) where
     were_checks None = by (lives n.client n.backend n.time es && n.resets)
       where
         by : (b : Bool) → AllWere None n es (without_if b n.client es)
-        by true = were_without None n es May all
+        by true = (were_without None n es May all).0
         by false = all_were None n es
     were_checks (Some seconds) = by (slot_of n.client es) refl
       where
@@ -369,7 +484,7 @@ module _ (n : Noted) (es : Forwards) where
         of_there slot true at is =
             let port : slot.port ≡ n.backend =
             eqb-true _ _ (both (slot.port == n.backend) (not (is_idle n.time (n.client, slot))) is).0 in
-            were_checked seconds slot at (of_port slot.port port n.class)
+            (were_checked seconds slot at (of_port slot.port port n.class)).0
         of_there slot false at is = all_were (Some seconds) n es
 
         by : (o : Option Slot) → slot_of n.client es ≡ o → AllWere (Some seconds) n es (checked_by seconds n es o).0
@@ -378,16 +493,21 @@ module _ (n : Noted) (es : Forwards) where
 
 module _ (s : Settings) (r : Trail) (met_loads : Option (List ℕ × List ℕ)) (p : Packet) (n : Noted) where
   -- what the packet made of the phase, by its control bits
-
-  now_is : (c : Option ℕ) (flags : ℕ) (old : Phase) → n.tells ≡ tells_by c flags
-      → NowAt c n old ≡ phase_by c n.client.protocol n.class flags old
-  now_is None flags old is = refl
-  now_is (Some seconds) flags old is = by (n.client.protocol == 6)
+  pub now_goes_on : (c : Option ℕ) (flags : ℕ) (old : Phase) → n.tells ≡ tells_by c flags
+      → PhaseGoesOn c n.client.protocol n.class flags old (NowAt c n old)
+  now_goes_on None flags old is = refl
+  now_goes_on (Some seconds) flags old is = by (n.client.protocol == 6) refl
     where
-      by : (b : Bool) → phase_told seconds n.class (if b then n.tells else Nothing) old
-          ≡ (if b then phase_told seconds n.class (tells_of flags) old else old)
-      by true = ap (λ (t : Tells). phase_told seconds n.class t old) is
-      by false = refl
+      by : (b : Bool) → (n.client.protocol == 6) ≡ b
+          → (let new = phase_told seconds n.class (if b then n.tells else Nothing) old in
+          ((n.client.protocol ≢ 6) × (new ≡ old))
+          ⊎ ((n.client.protocol ≡ 6) × SegmentFollows seconds flags n.class old new))
+      by true q = inr (
+        eqb-true _ _ q,
+        subst (λ (t : Tells). SegmentFollows seconds flags n.class old (phase_told seconds n.class t old)) (sym is)
+            (segment_follows seconds n.class flags old),
+      )
+      by false q = inl (λ e. absurd (let z : (n.client.protocol == 6) ≡ true = is_eq n.client.protocol 6 e in cc), refl)
 
   of_side : (flow : Flow) (client : Endpoint) (port : ℕ) (k : Class) → client ≡ n.client → IsOf s flow n k
       → IsItsBackend port n k → IsOfSide s client port flow k
@@ -411,8 +531,9 @@ module _ (s : Settings) (r : Trail) (met_loads : Option (List ℕ × List ℕ)) 
         of_side base.flow client slot.port n.class same base.of its,
         old,
         subst (λ (x : Endpoint). HadPhase old (slot_of x es)) (sym same) had,
-        phase ∙ now_is s.closing base.flow.flags old base.notes
-            ∙ ap (λ (x : Endpoint). phase_by s.closing x.protocol n.class base.flow.flags old) (sym same),
+        subst (λ (x : Endpoint). PhaseGoesOn s.closing x.protocol n.class base.flow.flags old slot.phase) (sym same)
+            (subst (PhaseGoesOn s.closing n.client.protocol n.class base.flow.flags old) (sym phase)
+            (now_goes_on s.closing base.flow.flags old base.notes)),
       )
 
   same_follows : (es : Forwards) → Follows es es
@@ -425,7 +546,7 @@ module _ (s : Settings) (r : Trail) (met_loads : Option (List ℕ × List ℕ)) 
   touch_follows FindsConnection (Loaded loads) v fits k = same_follows []
   touch_follows FindsConnection (Connected es) v fits k =
       follows_on es (finds s.closing n es).0 k.base
-      (were_finds n es (MayConnect s v) fits.2 (of_client n es k.is_class) s.closing)
+      (were_finds n es (MayConnect s v) fits.2 (of_client n es k.is_class) s.closing).0
   touch_follows LowersIdle (Dropped d) v fits k = same_follows []
   touch_follows LowersIdle (Loaded loads) v fits k = same_follows []
   touch_follows LowersIdle (Connected es) v fits k = same_follows es
@@ -436,7 +557,7 @@ module _ (s : Settings) (r : Trail) (met_loads : Option (List ℕ × List ℕ)) 
   touch_follows Connects (Loaded loads) v fits k = same_follows []
   touch_follows Connects (Connected es) v fits k =
       follows_on es (connects s.closing n es).0 k.0.base
-      (were_connects n es (MayConnect s v) fits.2 (of_client n es k.0.is_class) s.closing)
+      (were_connects n es (MayConnect s v) fits.2 (of_client n es k.0.is_class) s.closing).0
   touch_follows LowersVain (Dropped d) v fits k = same_follows []
   touch_follows LowersVain (Loaded loads) v fits k = same_follows []
   touch_follows LowersVain (Connected es) v fits k = same_follows es

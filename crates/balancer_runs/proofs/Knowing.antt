@@ -75,12 +75,17 @@ pub record IsTold (s : Settings) (r : Trail) (p : Packet) (n : Noted) (class : C
 abbrev pub FoundNone : Trail → Noted → Type 0
 FoundNone r n = (es : Forwards) × (r.found ≡ Some es) × HasNone n.client n.time (slot_of n.client es)
 
+-- the packet touched a connection table
+abbrev pub HasFound : Trail → Type 0
+HasFound r = (es : Forwards) × (r.found ≡ Some es)
+
 abbrev pub KnownAt : Settings → Trail → Option (List ℕ × List ℕ) → Packet → Place → Noted → Type 0
 KnownAt s r met p HearsTime n = IsBase s p n
 KnownAt s r met p FindsConnection n = IsTold s r p n Client
 KnownAt s r met p LowersIdle n = IsTold s r p n Client × FoundNone r n
-KnownAt s r met p RaisesLeast n = IsTold s r p n Client
-KnownAt s r met p Connects n = IsTold s r p n Client × WasChosen met n.backend
+KnownAt s r met p RaisesLeast n = IsTold s r p n Client × HasFound r × (n.resets ≡ false)
+KnownAt s r met p Connects n =
+    IsTold s r p n Client × WasChosen met n.backend × HasFound r × (n.resets ≡ false)
 KnownAt s r met p LowersVain n = Unit {0}
 KnownAt s r met p LowersSpare n = Unit {0}
 KnownAt s r met p ChecksConnection n = IsTold s r p n Answer
@@ -198,7 +203,7 @@ module _ (s : Settings) (p : Packet) where
   -- a client's packet that found no connection begins one, or is dropped where it resets it
   begins_known : (r : Trail) (met : Option (List ℕ × List ℕ)) (n : Noted) (b : Bool) → n.resets ≡ b
       → IsTold s r p n Client → FoundNone r n → KnownAt s r met p (begins n b).place (begins n b).noted
-  begins_known r met n false q told none = told
+  begins_known r met n false q told none = (told, (none.0, none.1), q)
   begins_known r met n true q told none =
       let base : IsBase s p n = told.base in
       let of : IsOf s base.flow n Client = client_of n base told.is_class in
@@ -270,7 +275,8 @@ module _ (s : Settings) (p : Packet) where
         let base : IsBase s p n = told.base in
         let bits = opening_bits s.closing base.flow.flags (sym base.notes ∙ (heard_opens n opening).1) in
         let none : n.resets ≡ false = base.reset ∙ ap not bits.0 in
-        subst (λ (b : Bool). KnownAt s next met p (begins n b).place (begins n b).noted) (sym none) told_next
+        subst (λ (b : Bool). KnownAt s next met p (begins n b).place (begins n b).noted) (sym none)
+        (told_next, (es, refl), none)
 
     met_known : (seconds : ℕ) (slot : Slot) (b : Bool) → gives_way n slot ≡ b
         → (let f = met_connection seconds n es slot b in KnownAt s next met p f.1.place f.1.noted)
@@ -399,8 +405,10 @@ module _ (s : Settings) (p : Packet) where
   touch_known r met later LowersIdle (Connected es) n v e at fits is chosen k = tt
   touch_known r met later RaisesLeast (Dropped d) n v e at fits is chosen k = absurd (omega (arith, at, fits))
   touch_known r met later RaisesLeast (Loaded loads) n v e at fits is chosen k = (
-    client_on r r n (record n { backend = least_loaded loads }) refl refl refl refl refl refl k,
+    client_on r r n (record n { backend = least_loaded loads }) refl refl refl refl refl refl k.0,
     (loads, has_least loads (omega (arith, fits.1, is.some_backends)), chosen refl),
+    k.1,
+    k.2,
   )
   touch_known r met later RaisesLeast (Connected es) n v e at fits is chosen k = absurd (omega (arith, at, fits.0))
   touch_known r met later Connects (Dropped d) n v e at fits is chosen k = tt

@@ -8,3 +8,8 @@ pub mod BusyConnections
 pub mod LoadTouches
 pub mod Following
 pub mod Refreshing
+pub mod Touching
+pub mod GivingWay
+pub mod Serving
+pub mod Ending
+pub mod Saying

@@ -1,22 +1,14 @@
 -- Clients refresh their own connections.
-use Rattle.std.proofs.Common.{◌≡◌, ℕ, ◌+◌, ◌<◌, ◌≤◌, max, Bool, true, false, List, [], ◌∷◌, ◌++◌, refl, sym, ap, ◌∙◌}
+use Rattle.std.proofs.Common.{◌≡◌, ℕ, ◌<◌, ◌≤◌, max, Bool, true, false, List, [], ◌∷◌, ◌++◌, refl, sym, ap, ◌∙◌}
 use Rattle.std.proofs.Common.{subst, ◌⊎◌, inl, inr, arith, Option, Some, None}
-use Rattle.std.specs.Prelude.{nat_eq, cond, ◌==◌, ◌&&◌, not, if◌then◌else◌, Ok}
+use Rattle.std.specs.Prelude.{nat_eq, cond, ◌&&◌, Ok}
 use Rattle.std.proofs.lemmas.Bool.{eqb-true, cases_lt}
 use Rattle.plain_text.specs.declared.packet.Packet.{Packet}
-use Rattle.entry_order.specs.Log.{Entry, places}
-use Rattle.entry_order.specs.declared.what.What.{What}
-use Rattle.entry_order.specs.declared.what.What.TheVariants.{Access as Accessed, Read as WasRead, Clock as Heard}
-use Rattle.entry_order.specs.declared.what.What.TheVariants.{Draw as Drew}
-use Rattle.entry_order.proofs.Order.{touch_only}
 use Rattle.packet_headers.specs.declared.flow.Flow.{Flow}
-use Rattle.packet_headers.specs.View.{viewed}
-use Rattle.plain_machine.specs.declared.local.Move.{Move}
 use Rattle.plain_machine.specs.declared.local.Move.TheVariants.{Access}
 use Rattle.plain_machine.specs.Machine.{Hand, Thread, Effect, Takes, Touches, Looks, HearsClock, HearsDraw, Sends}
 use Rattle.plain_machine.specs.Machine.{Ends as EndsIt}
-use Rattle.plain_machine.specs.History.{Act, Did, Step, act_of, entry_of, log_of, left_by, thread_after, value_after}
-use Rattle.plain_machine.proofs.Histories.{is_eq}
+use Rattle.plain_machine.specs.History.{Step, act_of, left_by, thread_after, value_after}
 use Rattle.plain_machine.proofs.Bounds.{values_fit}
 use Rattle.nat_tables.specs.declared.entries.Endpoint.{Endpoint}
 use Rattle.nat_tables.specs.declared.slot.Slot.{Slot}
@@ -50,25 +42,26 @@ use Rattle.balancer_runs.specs.Choosing.{loads_met}
 use Rattle.balancer_runs.specs.Refreshing.{IsOfClient, OnlyClientsRefresh, ClientsRefresh}
 use Rattle.balancer_runs.proofs.Tables.{other_refresh, other_in_phase, other_without, other_append, none_without}
 use Rattle.balancer_runs.proofs.Tables.{without_idle_had}
-use Rattle.balancer_runs.proofs.Knowing.{IsBase, IsTold, KnownAt, Known, client_of, answer_of, run_known}
+use Rattle.balancer_runs.proofs.Knowing.{IsTold, KnownAt, Known, client_of, answer_of, run_known}
 use Rattle.balancer_runs.proofs.Connections.{touch_is}
+use Rattle.balancer_runs.proofs.Touching.{table_touched}
 
 -- What a touch leaves
 
 -- a connection was last used when it was before; or it is the packet's client's, and was used at its time
-abbrev WasUsed : Noted → Forwards → Endpoint → Slot → Type 0
+abbrev pub WasUsed : Noted → Forwards → Endpoint → Slot → Type 0
 WasUsed n es client slot =
     ((old : Slot) × (slot_of client es ≡ Some old) × (slot.last ≡ old.last))
     ⊎ ((client ≡ n.client) × (slot.last ≡ n.time))
 
-abbrev AllUsed : Noted → Forwards → Forwards → Type 0
+abbrev pub AllUsed : Noted → Forwards → Forwards → Type 0
 AllUsed n es left = (client : Endpoint) (slot : Slot) → slot_of client left ≡ Some slot → WasUsed n es client slot
 
 -- the client's own was used at the packet's time or later
-abbrev IsFresh : Noted → Forwards → Type 0
+abbrev pub IsFresh : Noted → Forwards → Type 0
 IsFresh n left = (slot : Slot) → slot_of n.client left ≡ Some slot → n.time ≤ slot.last
 
-abbrev IsRefreshed : Noted → Forwards → Forwards → Type 0
+abbrev pub IsRefreshed : Noted → Forwards → Forwards → Type 0
 IsRefreshed n es left = AllUsed n es left × IsFresh n left
 
 later_or : (last now : ℕ) → (max last now ≡ now) ⊎ ((max last now ≡ last) × (now ≤ last))
@@ -303,7 +296,7 @@ module _ (s : Settings) (r : Trail) (loads : Option (List ℕ × List ℕ)) (p :
       on (inr k) =
           inr ((told.base.flow, told.base.seen, of.0, k.0 ∙ of.1), told.clock ∙ ap Some (sym k.1))
 
-  own_client : (client : Endpoint) → IsTold s r p n Client → IsOfClient s client p → client ≡ n.client
+  pub own_client : (client : Endpoint) → IsTold s r p n Client → IsOfClient s client p → client ≡ n.client
   own_client client told is =
       let of : IsOf s told.base.flow n Client = client_of s p n told.base told.is_class in
       let both : Ok is.0 ≡ Ok told.base.flow = sym is.1 ∙ told.base.seen in
@@ -315,8 +308,8 @@ module _ (s : Settings) (r : Trail) (loads : Option (List ℕ × List ℕ)) (p :
       let k : client ≡ n.client = own_client client told is in
       (n.time, told.clock, fresh slot (subst (λ (x : Endpoint). slot_of x left ≡ Some slot) k at))
 
-  no_answer : (left : Forwards) → IsTold s r p n Answer → Fresh left
-  no_answer left told client slot is at =
+  pub not_answer : (client : Endpoint) → IsTold s r p n Answer → IsOfClient s client p → ⊥
+  not_answer client told is =
       let of : IsOf s told.base.flow n Answer = answer_of s p n told.base told.is_class in
       let both : Ok is.0 ≡ Ok told.base.flow = sym is.1 ∙ told.base.seen in
       let one : is.0 ≡ told.base.flow = cc in
@@ -324,6 +317,9 @@ module _ (s : Settings) (r : Trail) (loads : Option (List ℕ × List ℕ)) (p :
       subst (λ (g : Flow). is_virtual s g.dest g.dest_port ≡ true) one is.2 in
       let not_virtual : is_virtual s told.base.flow.dest told.base.flow.dest_port ≡ false = of.0 in
       absurd (cc)
+
+  no_answer : (left : Forwards) → IsTold s r p n Answer → Fresh left
+  no_answer left told client slot is at = absurd (not_answer client told is)
 
   touch_used : (place : Place) (x : BalancerValue) (v : ℕ) → Fits s v x → KnownAt s r loads p place n
       → Used (connections_in x) (connections_in (touched s.closing place x n).0)
@@ -419,48 +415,6 @@ module _ (s : Settings) (is : AreSettings s) (packets : List Packet) (t taken ta
           of_touch h k.1
           (touch_used s r loads h.packet n (place_numbered h.place.at) (value v) v fits k.4 client slot there)
 
-  module _ (entry : Entry) (left_then : Option BalancerValue) (place : ℕ) (what : entry.what ≡ Accessed v place)
-      (es : Forwards) (table : value v ≡ Connected es) (h : Hand) (held : before ≡ Some h) (client : Endpoint)
-      (slot : Slot) (of : IsOfClient s client h.packet) where
-    abbrev IsNew : Type 0
-    IsNew = (now : ℕ) × (r.clock ≡ Some now) × (now ≤ slot.last)
-
-    entry_is : (a b : Entry) (l m : Option BalancerValue) → Did a l ≡ Did b m → a.what ≡ b.what
-    entry_is a b l m e = let one : a ≡ b = cc in ap (λ (x : Entry). x.what) one
-
-    not_heard : (a : ℕ) → Heard a ≡ Accessed v place → ⊥
-    not_heard a e = absurd (cc)
-
-    deed_freshens : (d : Effect BalancerValue) → act_of t earlier taken_then d ≡ Did entry left_then
-        → slot_of client (connections_in (left_by v (act_of t earlier taken_then d) (value v))) ≡ Some slot
-        → Made s packets taken value before after d → IsNew
-    deed_freshens Takes e at m = absurd (cc)
-    deed_freshens (Looks w) e at m = absurd m
-    deed_freshens (HearsClock a) e at m =
-        absurd (not_heard a (entry_is (entry_of t (log_of earlier) (Heard a)) entry None left_then e ∙ what))
-    deed_freshens (HearsDraw a) e at m = absurd m
-    deed_freshens (Sends q) e at m = absurd (cc)
-    deed_freshens EndsIt e at m = absurd (cc)
-    deed_freshens (Touches w left) e at m =
-        let this : Entry = entry_of t (log_of earlier) (Accessed w (places w (log_of earlier) + 1)) in
-        let both : Accessed w (places w (log_of earlier) + 1) ≡ Accessed v place =
-        entry_is this entry (Some left) left_then e ∙ what in
-        let one : w ≡ v = (touch_only _ _ _ _ both).0 in
-        let k = touch_is s is packets t taken taken_then value before after earlier r loads known v fits w left m one in
-        let n : Noted = noted_by s k.0.place in
-        let same_hand : k.0 ≡ h = (let two : Some k.0 ≡ Some h = sym k.1 ∙ held in cc) in
-        let here : slot_of client (connections_in left) ≡ Some slot =
-        subst (λ (b : Bool). slot_of client (connections_in (cond b left (value v))) ≡ Some slot) (is_eq w v one) at in
-        let there = subst (λ (y : BalancerValue). slot_of client (connections_in y) ≡ Some slot) k.3 here in
-        let now : slot_of client
-        (connections_in (touched s.closing (place_numbered k.0.place.at) (Connected es) n).0) ≡ Some slot =
-        subst (λ (y : BalancerValue).
-        slot_of client (connections_in (touched s.closing (place_numbered k.0.place.at) y n).0) ≡ Some slot) table
-        there in
-        touch_fresh s r loads k.0.packet n (place_numbered k.0.place.at) es v (subst (Fits s v) table fits) k.2 k.4
-        client
-        slot (subst (λ (g : Hand). IsOfClient s client g.packet) (sym same_hand) of) now
-
 pub only_clients_refresh : OnlyClientsRefresh
 only_clients_refresh s threads inputs x earlier v client slot is bytes h low at =
     let value : ℕ → BalancerValue = value_after (balancer_meaning s) earlier in
@@ -474,15 +428,7 @@ only_clients_refresh s threads inputs x earlier v client slot is bytes h low at 
 pub clients_refresh : ClientsRefresh
 clients_refresh s threads inputs x earlier entry left v place hand es client slot is bytes h act what low held of table
     at =
-    let value : ℕ → BalancerValue = value_after (balancer_meaning s) earlier in
-    let old : Thread = thread_after earlier x.thread in
-    let m = made s (inputs x.thread) value old.taken x.after h.0.2 old.hand h.0.1 h.0.3 in
-    let fits = values_fit (balancer_meaning s) (Fits s) (balancer_lawful s is) inputs threads earlier h.1 v low in
-    let there : slot_of client (connections_in (left_by v (act_of x.thread earlier x.after.taken h.0.2) (value v)))
-    ≡ Some slot =
-    subst (λ (y : Act BalancerValue). slot_of client (connections_in (left_by v y (value v))) ≡ Some slot) h.0.4 at in
-    deed_freshens s is (inputs x.thread) x.thread old.taken x.after.taken value old.hand x.after.hand earlier
-    (trail_of s x.thread earlier) (loads_met s x.thread earlier)
-    (run_known s threads inputs earlier is bytes h.1 x.thread) v fits entry left place what es table hand held client
-    slot
-    of h.0.2 (sym h.0.4 ∙ act) there m
+    let t = table_touched s threads inputs x earlier entry left v place hand es is bytes h act what low held table in
+    let there = subst (λ (y : BalancerValue). slot_of client (connections_in y) ≡ Some slot) t.left at in
+    touch_fresh s (trail_of s x.thread earlier) (loads_met s x.thread earlier) hand.packet (noted_by s hand.place)
+    (place_numbered hand.place.at) es v t.fits t.move t.known client slot of there

@@ -1,8 +1,7 @@
 -- Which connections are followed: where the settings have a number of seconds those of TCP, and each that has ended has
 -- this number; else none, and each touch is as if there were no such number. And how a packet changes a connection's
 -- phase.
-use Rattle.std.specs.Prelude.{◌≡◌, ℕ, ◌+◌, ◌<◌, ◌⊎◌, ◌==◌, if◌then◌else◌, true, false, List, ◌∷◌, Option}
-use Rattle.std.specs.Prelude.{Some, None, Ok}
+use Rattle.std.specs.Prelude.{◌≡◌, ◌≢◌, ℕ, ◌+◌, ◌<◌, ◌⊎◌, true, false, List, ◌∷◌, Option, Some, None, Ok, bit_and}
 use Rattle.plain_text.specs.declared.packet.Packet.{Packet}
 use Rattle.packet_headers.specs.declared.flow.Flow.{Flow}
 use Rattle.packet_headers.specs.View.{viewed}
@@ -29,9 +28,9 @@ use Rattle.balancer_box.specs.declared.place.Goes.{Goes}
 use Rattle.balancer_box.specs.declared.value.BalancerValue.{BalancerValue}
 use Rattle.balancer_box.specs.declared.value.BalancerValue.TheVariants.{Dropped, Loaded, Connected}
 use Rattle.balancer_box.specs.Loads.{raised, lowered, least_loaded}
-use Rattle.balancer_box.specs.Connections.{find_connection, check_connection, phase_told}
+use Rattle.balancer_box.specs.Connections.{find_connection, check_connection}
 use Rattle.balancer_box.specs.Places.{place_numbered}
-use Rattle.balancer_box.specs.Balancer.{Settings, goes, is_virtual, backend_at, tells_of, begun, begins, after_find}
+use Rattle.balancer_box.specs.Balancer.{Settings, goes, is_virtual, backend_at, begun, begins, after_find}
 use Rattle.balancer_box.specs.Balancer.{after_bind, after_check, local_at, noted_by, balancer_meaning}
 use Rattle.balancer_box.specs.Lawful.{AreSettings}
 use Rattle.balancer_box.specs.Entries.{connections_in}
@@ -91,12 +90,38 @@ TouchesAsBefore =
 abbrev pub BeginsAsBefore : Type 0
 BeginsAsBefore = (s : Settings) → s.closing ≡ None → (flow : Flow) → (begun s (Ok flow)).noted.tells ≡ Nothing
 
--- What a packet of one side makes of the phase of its connection, by its control bits, where connections are followed
+-- The control bits of a segment (RFC 9293, section 3.1): FIN is 1, SYN 2, RST 4, and ACK 16.
 
-abbrev pub phase_by : Option ℕ → ℕ → Class → ℕ → Phase → Phase
-phase_by None protocol side flags phase = phase
-phase_by (Some seconds) protocol side flags phase =
-    if protocol == 6 then phase_told seconds side (tells_of flags) phase else phase
+abbrev pub IsSet : ℕ → ℕ → Type 0
+IsSet bit flags = bit_and flags bit ≢ 0
+
+abbrev pub IsClear : ℕ → ℕ → Type 0
+IsClear bit flags = bit_and flags bit ≡ 0
+
+abbrev pub other_side : Class → Class
+other_side Client = Answer
+other_side Answer = Client
+
+-- the phase of a connection of which this side alone sent FIN
+abbrev pub half_closed : Class → Phase
+half_closed Client = EndedByClient
+half_closed Answer = EndedByServer
+
+-- What a segment of one side with these bits makes of a connection. RST ends it. FIN closes its sender's half, and ends
+-- it where the other half was closed. All others leave it; and what has ended stays so.
+pub record Follows (seconds flags : ℕ) (side : Class) (old new : Phase) : Type 0 where
+  pub reset : IsSet 4 flags → new ≡ Closing seconds
+  pub first : IsClear 4 flags → IsSet 1 flags → old ≡ Plain → new ≡ half_closed side
+  pub second : IsClear 4 flags → IsSet 1 flags → old ≡ half_closed (other_side side) → new ≡ Closing seconds
+  pub again : IsClear 4 flags → old ≡ half_closed side → new ≡ half_closed side
+  pub stays : IsClear 4 flags → IsClear 1 flags → new ≡ old
+  pub ended : old ≡ Closing seconds → new ≡ Closing seconds
+
+-- so it is where connections are followed, of TCP
+abbrev pub PhaseGoesOn : Option ℕ → ℕ → Class → ℕ → Phase → Phase → Type 0
+PhaseGoesOn None protocol side flags old new = new ≡ old
+PhaseGoesOn (Some seconds) protocol side flags old new =
+    ((protocol ≢ 6) × (new ≡ old)) ⊎ ((protocol ≡ 6) × Follows seconds flags side old new)
 
 -- the phase of the client's connection, or that of a new one where there is none
 abbrev pub HadPhase : Phase → Option Slot → Type 0
@@ -114,10 +139,10 @@ abbrev pub IsFollowedOn : Settings → Forwards → Endpoint → Slot → Packet
 IsFollowedOn s es client slot p =
     (flow : Flow) × (viewed p.bytes p.original ≡ Ok flow) × (side : Class) × IsOfSide s client slot.port flow side
     × (old : Phase) × HadPhase old (slot_of client es)
-    × (slot.phase ≡ phase_by s.closing client.protocol side flow.flags old)
+    × PhaseGoesOn s.closing client.protocol side flow.flags old slot.phase
 
 -- Each connection that is there after a step was there before it, the same, or the packet in hand comes from its client
--- or its backend, and its phase is the one after this packet.
+-- or its backend, and its phase is the one that this packet's control bits make of the one before.
 abbrev pub SidesFollow : Type 0
 SidesFollow =
     (s : Settings) (threads : ℕ) (inputs : ℕ → List Packet) (x : Step BalancerValue)

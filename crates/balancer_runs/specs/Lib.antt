@@ -6,3 +6,7 @@ pub mod Choosing
 pub mod Answering
 pub mod Following
 pub mod Refreshing
+pub mod GivingWay
+pub mod Serving
+pub mod Ending
+pub mod Saying

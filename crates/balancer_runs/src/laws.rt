@@ -7,6 +7,10 @@ ghost use Rattle.balancer_runs.specs.Following.{FollowedByTheLine, NoneFollowedW
 ghost use Rattle.balancer_runs.specs.Following.{TouchesAsBefore, BeginsAsBefore, SidesFollow};
 ghost use Rattle.balancer_runs.specs.Refreshing.{OnlyClientsRefresh, ClientsRefresh};
 ghost use Rattle.balancer_runs.specs.Choosing.{LeastLoadsAreRaised, NewConnectionsHaveLeastLoad};
+ghost use Rattle.balancer_runs.specs.GivingWay.{IdleGiveWay};
+ghost use Rattle.balancer_runs.specs.Ending.{SidesAreHeard, EndedGiveWay, ResetsRemove};
+ghost use Rattle.balancer_runs.specs.Saying.{PhasesAreSaid};
+ghost use Rattle.balancer_runs.specs.Serving.{SentAreOfService, StraysAreOfNone};
 
 /// In each run, whatever its threads, its inputs and the order of its moves: each packet that was taken went out, was
 /// counted as dropped, or is in hand and neither yet. So where no packet is in hand, the packets taken are those that
@@ -68,4 +72,35 @@ pub fn connections_are_followed_by_the_line()
 pub fn clients_refresh_their_own_connections()
     ensures only { OnlyClientsRefresh }
     ensures each { ClientsRefresh }
+{}
+
+/// Idle connections give way, in each run on packets of bytes, at each touch of a connection table by a packet of a
+/// client, at the time that it was told. In its first touch, in which it looks for its connection, it leaves no
+/// connection of its own client that was idle; and where its client had none, and one of the table was idle, one that
+/// was idle is gone. No more than one goes. Each connection of its client that it leaves was last used at this time, or
+/// it was there and was used later.
+pub fn idle_connections_give_way()
+    ensures { IdleGiveWay }
+{}
+
+/// In each run on packets of bytes: where TCP connections are followed, one has ended exactly where a RST came from
+/// either side since it began, or a FIN from each; with FIN from one side it is half closed (`said`). What a side says
+/// counts at each touch of a table by a packet of its client, and by one of its backend while it is not idle (`heard`).
+/// A connection that has ended gives way at once to the one that its client opens, by SYN without ACK, FIN and RST, in
+/// the first touch of this packet (`gives_way`). Where connections are not followed, RST from the client or from the
+/// backend removes one that is not idle (`removed`).
+pub fn connections_end_as_both_sides_say()
+    ensures said { PhasesAreSaid }
+    ensures heard { SidesAreHeard }
+    ensures gives_way { EndedGiveWay }
+    ensures removed { ResetsRemove }
+{}
+
+/// In each run on packets of bytes, each packet that is sent out went to the virtual address and port, or came from the
+/// address and port of a backend (`sent`). And each drop that is counted is for the reason that the packet has: 1 to 6
+/// where its frame is no flow, 9, a stray, where it is a flow of neither kind, and 7, no connection, where it is of one
+/// of them. So a packet to the virtual address and port is never a stray, nor is one from a backend (`strays`).
+pub fn what_is_translated_is_of_the_service()
+    ensures sent { SentAreOfService }
+    ensures strays { StraysAreOfNone }
 {}
