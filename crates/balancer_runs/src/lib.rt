@@ -9,4 +9,5 @@ pub use laws::{
     answers_come_before_idle, clients_refresh_their_own_connections,
     connections_are_followed_by_the_line, connections_stay_until_idle_or_reset,
     drops_have_their_causes, new_connections_have_least_load, no_packet_vanishes,
+    traced_reasons_are_those_counted,
 };
