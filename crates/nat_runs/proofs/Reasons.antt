@@ -1,5 +1,5 @@
 -- The reason of a drop stands in its register when the packet comes to its end.
-use Rattle.std.proofs.Common.{◌≡◌, ℕ, ◌+◌, Bool, List, refl, sym, ap, ◌∙◌, subst, ◌∷◌}
+use Rattle.std.proofs.Common.{◌≡◌, ℕ, ◌+◌, ◌*◌, ◌<◌, Bool, List, refl, sym, ap, ◌∙◌, subst, ◌∷◌}
 use Rattle.std.proofs.Common.{true, arith, Option, Some, None}
 use Rattle.std.specs.Prelude.{cond, nat_eq}
 use Rattle.plain_text.specs.declared.packet.Packet.{Packet}
