@@ -27,10 +27,10 @@ use Rattle.balancer_runs.proofs.Vanishing.{HasTen, counted_once, run_kept}
 use Rattle.balancer_runs.proofs.Knowing.{KnownAt, Known, run_known}
 
 -- one count more, of this reason
-abbrev IsOneMore : ℕ → List ℕ → List ℕ → Type 0
+abbrev pub IsOneMore : ℕ → List ℕ → List ℕ → Type 0
 IsOneMore reason old new = new ≡ slice_set old (reason - 1) ((slice_index old (reason - 1) + 1) % 2 ^ 64)
 
-counts_more : (c : Option ℕ) (x : BalancerValue) (n : Noted) → HasTen x → IsReason n.reason
+pub counts_more : (c : Option ℕ) (x : BalancerValue) (n : Noted) → HasTen x → IsReason n.reason
     → IsOneMore n.reason (drop_counts x) (drop_counts (touched c CountsDrop x n).0)
 counts_more c (Dropped d) n ten is = counted_once n.reason d is
 counts_more c (Loaded loads) n ten is = absurd ten

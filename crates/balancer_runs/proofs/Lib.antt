@@ -4,6 +4,7 @@ pub mod Tables
 pub mod Knowing
 pub mod Connections
 pub mod DropCauses
+pub mod Reasons
 pub mod BusyConnections
 pub mod LoadTouches
 pub mod Following

@@ -2,6 +2,7 @@ pub mod Idle
 pub mod Packets
 pub mod Staying
 pub mod Causes
+pub mod Reasons
 pub mod Choosing
 pub mod Answering
 pub mod Following

@@ -3,6 +3,7 @@ ghost use Rattle.balancer_runs.specs.Packets.{NoPacketVanishes, NoPacketVanishes
 ghost use Rattle.balancer_runs.specs.Packets.{EachHasOneOutcome};
 ghost use Rattle.balancer_runs.specs.Staying.{ConnectionsStay};
 ghost use Rattle.balancer_runs.specs.Causes.{DropsHaveCauses};
+ghost use Rattle.balancer_runs.specs.Reasons.{ReasonsStand};
 ghost use Rattle.balancer_runs.specs.Following.{FollowedByTheLine, NoneFollowedWithoutIt};
 ghost use Rattle.balancer_runs.specs.Following.{TouchesAsBefore, BeginsAsBefore, SidesFollow};
 ghost use Rattle.balancer_runs.specs.Refreshing.{OnlyClientsRefresh, ClientsRefresh};
@@ -35,6 +36,12 @@ pub fn connections_stay_until_idle_or_reset()
 /// backend, or it is of no connection that lives.
 pub fn drops_have_their_causes()
     ensures { DropsHaveCauses }
+{}
+
+/// When a packet is counted as dropped, the reason for which it is counted stands in register 8 of its thread, and its
+/// next move is its end: so a trace tells the reason that was counted.
+pub fn traced_reasons_are_those_counted()
+    ensures { ReasonsStand }
 {}
 
 /// In each run, a touch of the loads raises that of a backend of least load, the first of equals, or lowers one. And on

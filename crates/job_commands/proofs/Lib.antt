@@ -19,3 +19,4 @@ pub mod ChainFaults
 pub mod CheckBoxes
 pub mod ResumeFiles
 pub mod ResumeFaults
+pub mod SameBytes

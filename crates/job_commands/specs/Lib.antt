@@ -12,3 +12,4 @@ pub mod ChainWords
 pub mod HandWords
 pub mod Resume
 pub mod Checked
+pub mod SameBytes

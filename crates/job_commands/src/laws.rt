@@ -22,7 +22,8 @@ ghost use Rattle.job_commands.specs.Schedules.{JudgesCheck, JudgesPlay};
 ghost use Rattle.run_writes.specs.Run.{HasRun};
 ghost use Rattle.job_commands.specs.declared.inputs.Inputs.{Inputs};
 ghost use Rattle.job_commands.specs.Checked.{AreWithinLimits, StillStand, checked};
-ghost use Rattle.job_commands.specs.Run.{AcceptsInputs, outputs_of, setting_for};
+ghost use Rattle.job_commands.specs.Run.{AcceptsInputs, RunsWhole, outputs_of, setting_for};
+ghost use Rattle.job_commands.specs.SameBytes.{HaveSameInputs, LeaveSameBytes};
 ghost use Rattle.job_commands.specs.Words.{CheckNames, LiveNames, PlayNames, RunNames};
 
 /// The input files decide the status: of those that they decide at most one is true of them. So each comes exactly
@@ -103,4 +104,13 @@ pub fn pcapng_captures_are_savefiles()
 /// laws of the monitor's runs ask for.
 pub fn inputs_are_of_bytes<X>()
     ensures { (s : Setting X) → All IsOfBytes s.packets → HaveBytes (all_inputs s) }
+{}
+
+/// What `run` leaves is a function of the bytes of its input files: two runs that are done on the same bytes of box,
+/// capture and script, under whatever names and in whatever worlds, leave the same bytes of RELEASED and SCHEDULE and add
+/// the same bytes to the report.
+pub fn runs_on_the_same_bytes_leave_the_same()
+    ensures { (names other : RunNames) (old new before after : Shown)
+        → HaveSameInputs names other old before → RunsWhole names old new
+        → RunsWhole other before after → LeaveSameBytes names other old new before after }
 {}

@@ -35,8 +35,8 @@ pub use first_inputs::{FirstInputs, read_first_inputs};
 pub use hand_words::{HandWords, read_hand_words};
 pub use inputs::{Inputs, read_inputs};
 pub use laws::{
-    inputs_are_of_bytes, one_verdict, pcapng_captures_are_savefiles, what_refused_inputs_say,
-    what_run_leaves_is_accepted,
+    inputs_are_of_bytes, one_verdict, pcapng_captures_are_savefiles,
+    runs_on_the_same_bytes_leave_the_same, what_refused_inputs_say, what_run_leaves_is_accepted,
 };
 pub use live_inputs::{LiveInputs, read_live_inputs};
 pub use live_words::{LiveWords, read_live_words};

@@ -12,6 +12,7 @@ pub mod Used
 pub mod Inbound
 pub mod DropCounts
 pub mod Causes
+pub mod Reasons
 pub mod Passing
 pub mod Refreshing
 pub mod StaticPorts

@@ -9,6 +9,7 @@ pub mod FullHosts
 pub mod GivingWay
 pub mod Parity
 pub mod Causes
+pub mod Reasons
 pub mod Inbound
 pub mod Refreshing
 pub mod StaticPorts

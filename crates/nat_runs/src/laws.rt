@@ -7,6 +7,7 @@ ghost use Rattle.nat_runs.specs.Following.{FollowedByTheLine, NoneFollowedWithou
 ghost use Rattle.nat_runs.specs.Following.{TouchesAsBefore, BeginsAsBefore, HostsFollow};
 ghost use Rattle.nat_runs.specs.Used.{ComesInByUsed};
 ghost use Rattle.nat_runs.specs.Causes.{DropsHaveCauses};
+ghost use Rattle.nat_runs.specs.Reasons.{ReasonsStand};
 ghost use Rattle.nat_runs.specs.Inbound.{InboundChangesNoTable};
 ghost use Rattle.nat_runs.specs.Refreshing.{HostsRefresh, SentRefresh};
 ghost use Rattle.nat_runs.specs.StaticPorts.{StaticPortsStay, NoneIsDropped, OnlyTheyAreKept};
@@ -81,6 +82,12 @@ pub fn what_comes_in_found_a_used_mapping()
 /// stray where it is about no packet that the box may have translated, and else found no used mapping.
 pub fn drops_have_their_causes()
     ensures { DropsHaveCauses }
+{}
+
+/// When a packet is counted as dropped, the reason for which it is counted stands in register 6 of its thread, and its
+/// next move is its end: so a trace tells the reason that was counted.
+pub fn traced_reasons_are_those_counted()
+    ensures { ReasonsStand }
 {}
 
 /// A step of an inbound packet leaves each table and the pool as they were: it refreshes no mapping (RFC 4787, REQ-6).

@@ -1,0 +1,139 @@
+-- The reason of a drop stands in its register when the packet comes to its end.
+use Rattle.std.proofs.Common.{◌≡◌, ℕ, ◌+◌, ◌*◌, ◌<◌, Bool, List, refl, sym, ap, ◌∙◌, subst, ◌∷◌}
+use Rattle.std.proofs.Common.{true, arith, Option, Some, None}
+use Rattle.std.specs.Prelude.{cond, nat_eq}
+use Rattle.plain_text.specs.declared.packet.Packet.{Packet}
+use Rattle.entry_order.specs.Log.{Entry, places}
+use Rattle.entry_order.specs.declared.what.What.{What}
+use Rattle.entry_order.specs.declared.what.What.TheVariants.{Access as Accessed, Read as WasRead, Clock as Heard}
+use Rattle.entry_order.specs.declared.what.What.TheVariants.{Draw as Drew}
+use Rattle.entry_order.proofs.Order.{touch_only}
+use Rattle.plain_machine.specs.declared.local.Move.TheVariants.{Access, End}
+use Rattle.plain_machine.specs.Machine.{Hand, Thread, Effect, Touches, Moves, held_move}
+use Rattle.plain_machine.specs.History.{Act, Did, Step, act_of, entry_of, log_of, left_by, thread_after, value_after}
+use Rattle.plain_machine.proofs.Histories.{is_eq}
+use Rattle.plain_machine.proofs.Bounds.{values_fit}
+use Rattle.nat_box.specs.declared.place.Place.{Place}
+use Rattle.nat_box.specs.declared.place.Place.TheVariants.{Ends}
+use Rattle.nat_box.specs.declared.place.Noted.{Noted}
+use Rattle.nat_box.specs.declared.place.Goes.{Goes}
+use Rattle.flow_boxes.specs.declared.drops.Drops.{Drops}
+use Rattle.nat_box.specs.declared.value.NatValue.{NatValue}
+use Rattle.nat_box.specs.declared.value.NatValue.TheVariants.{Dropped}
+use Rattle.nat_box.specs.Places.{noted}
+use Rattle.nat_box.specs.Nat.{Settings, goes, local_at, touched_by, followed, nat_meaning, Fits}
+use Rattle.nat_box.specs.Lawful.{AreSettings, var_of, touches_it, nat_lawful}
+use Rattle.nat_box.proofs.Making.{comes_to, goes_on}
+use Rattle.nat_runs.specs.Met.{Met, met_of}
+use Rattle.nat_runs.specs.Causes.{one_more}
+use Rattle.nat_runs.specs.Reasons.{ReasonsStand, reason_in}
+use Rattle.nat_runs.proofs.DropCounts.{drop_is}
+use Rattle.nat_runs.proofs.ThreadMoves.{TouchKind, finds, unbinds_freed, gives_freed, reserves, binds, finds_or_binds}
+use Rattle.nat_runs.proofs.ThreadMoves.{unbinds_lost, gives_lost, counts, touch_kind, at, touched_below, by_move}
+use Rattle.nat_runs.proofs.ThreadMoves.{entry_is}
+use Rattle.nat_runs.proofs.Knowing.{KnownAt, Known, run_known}
+
+-- what a count leaves, and where its packet goes
+abbrev Counted : Noted → NatValue → NatValue → Goes → Type 0
+Counted n x left g = (d : Drops) × (x ≡ Dropped d) × (left ≡ Dropped (one_more n.word d)) × (g ≡ goes Ends n)
+
+counted : (s : Settings) (m : Met) (p : Packet) (place : Place) (x : NatValue) (n : Noted) (limit : Option ℕ)
+    → TouchKind place x → var_of s place n ≡ 0 → KnownAt s m p place n
+    → Counted n x (followed s n (touched_by limit place x n).0) (touched_by limit place x n).1
+counted s m p _ _ n limit (finds es) e k = absurd (omega arith)
+counted s m p _ _ n limit (unbinds_freed bs) e k = absurd (omega arith)
+counted s m p _ _ n limit (gives_freed pool) e k = absurd (omega arith)
+counted s m p _ _ n limit (reserves pool) e k = absurd (omega arith)
+counted s m p _ _ n limit (binds bs) e k = absurd (omega arith)
+counted s m p _ _ n limit (finds_or_binds es) e k = absurd (omega arith)
+counted s m p _ _ n limit (unbinds_lost bs) e k = absurd (omega arith)
+counted s m p _ _ n limit (gives_lost pool) e k = absurd (omega arith)
+counted s m p _ _ n None (counts d) e k = (d, refl, ap Dropped (drop_is n.word d k.0 k.1), refl)
+counted s m p _ _ n (Some most) (counts d) e k = (d, refl, ap Dropped (drop_is n.word d k.0 k.1), refl)
+
+-- the hand after it
+abbrev Stands : Settings → NatValue → NatValue → Option Hand → Type 0
+Stands s x left after =
+    (h : Hand) × (d : Drops) × (after ≡ Some h) × (x ≡ Dropped d) × (left ≡ Dropped (one_more (reason_in h) d))
+    × ((nat_meaning s).next h.place ≡ End)
+
+at_end : (s : Settings) (h : Hand) (n : Noted) (x left : NatValue) (g : Goes) → Counted n x left g
+    → Stands s x left (goes_on h g)
+at_end s h n x left g (d, x_is, left_is, g_is) = (
+  record { packet = h.packet; place = local_at (goes Ends n) },
+  d,
+  ap (goes_on h) g_is,
+  x_is,
+  left_is,
+  refl,
+)
+
+module _ (s : Settings) (is : AreSettings s) (packets : List Packet) (value : ℕ → NatValue) (t : ℕ)
+    (earlier : List (Step NatValue)) (taken taken_then : ℕ)
+    (fits : (v : ℕ) → v < 2 + 2 * s.shards → Fits s v (value v)) (m : Met) (entry : Entry) (left : Option NatValue)
+    (place : ℕ) (what : entry.what ≡ Accessed 0 place) where
+  abbrev Counts : Option Hand → Option Hand → Effect NatValue → Type 0
+  Counts before after d =
+      Known s m before → act_of t earlier taken_then d ≡ Did entry left
+      → Stands s (value 0) (left_by 0 (act_of t earlier taken_then d) (value 0)) after
+
+  at_touch : (h : Hand) (w : ℕ) (after : NatValue) (hand : Option Hand)
+      → after ≡ followed s (noted h.place) (touched_by s.limit (at h) (value w) (noted h.place)).0
+      → hand ≡ goes_on h (touched_by s.limit (at h) (value w) (noted h.place)).1
+      → comes_to s h (Access w) → Known s m (Some h) → act_of t earlier taken_then (Touches w after) ≡ Did entry left
+      → Stands s (value 0) (cond (nat_eq w 0) after (value 0)) hand
+  at_touch h w after hand q r move k e =
+      let this : Entry = entry_of t (log_of earlier) (Accessed w (places w (log_of earlier) + 1)) in
+      let both : Accessed w (places w (log_of earlier) + 1) ≡ Accessed 0 place =
+      entry_is this entry (Some after) left e ∙ what in
+      let none : w ≡ 0 = (touch_only _ _ _ _ both).0 in
+      let below = touched_below s is h w move in
+      let kind = touch_kind s is.some (noted h.place) w (value w) (fits w below) (at h) move in
+      let it : var_of s (at h) (noted h.place) ≡ w = touches_it s (at h) (noted h.place) w move in
+      let end = at_end s h (noted h.place) (value w)
+      (followed s (noted h.place) (touched_by s.limit (at h) (value w) (noted h.place)).0)
+      (touched_by s.limit (at h) (value w) (noted h.place)).1
+      (counted s m h.packet (at h) (value w) (noted h.place) s.limit kind (it ∙ none) k) in
+      let stands : Stands s (value w) after hand =
+      subst (λ (y : NatValue). Stands s (value w) y hand) (sym q)
+      (subst (Stands s (value w) (followed s (noted h.place) (touched_by s.limit (at h) (value w) (noted h.place)).0))
+      (sym r) end) in
+      subst (λ (b : Bool). Stands s (value 0) (cond b after (value 0)) hand) (sym (is_eq w 0 none))
+      (subst (λ (u : ℕ). Stands s (value u) after hand) none stands)
+
+  not_read : (v after : ℕ) → WasRead v after ≡ Accessed 0 place → ⊥
+  not_read v after e = absurd (cc)
+
+  not_heard : (a : ℕ) → Heard a ≡ Accessed 0 place → ⊥
+  not_heard a e = absurd (cc)
+
+  not_drew : (a : ℕ) → Drew a ≡ Accessed 0 place → ⊥
+  not_drew a e = absurd (cc)
+
+  what_of : (w : What) → Did (entry_of t (log_of earlier) w) None ≡ Did entry left → w ≡ Accessed 0 place
+  what_of w e = entry_is (entry_of t (log_of earlier) w) entry None left e ∙ what
+
+  pub move_counts : (after : Thread) (d : Effect NatValue) (hand : Option Hand) (a : Option ℕ)
+      → held_move (nat_meaning s) packets value taken a hand ≡ Moves after d → Counts hand after.hand d
+  move_counts after d hand a move = by_move s packets value taken Counts (λ p input k e. absurd (cc))
+      (λ h w c k e.
+      at_touch h w (followed s (noted h.place) (touched_by s.limit (at h) (value w) (noted h.place)).0)
+      (goes_on h (touched_by s.limit (at h) (value w) (noted h.place)).1) refl refl c k e)
+      (λ h w c k e. absurd (not_read w (places w (log_of earlier)) (what_of (WasRead w (places w (log_of earlier))) e)))
+      (λ h x c k e. absurd (not_heard x (what_of (Heard x) e))) (λ h x c k e. absurd (not_drew x (what_of (Drew x) e)))
+      (λ h c k e. absurd (cc)) (λ h c k e. absurd (cc)) after d hand a move
+
+pub reasons_stand : ReasonsStand
+reasons_stand s threads inputs x earlier entry left place is h act what =
+    let fits = values_fit (nat_meaning s) (Fits s) (nat_lawful s is) inputs threads earlier h.1 in
+    let m : Met = met_of s x.thread earlier in
+    let value : ℕ → NatValue = value_after (nat_meaning s) earlier in
+    let before : Thread = thread_after earlier x.thread in
+    let c = move_counts s is (inputs x.thread) value x.thread earlier before.taken x.after.taken fits m entry left place
+    what x.after h.0.2 before.hand h.0.1 h.0.3 (run_known s threads inputs earlier is h.1 x.thread)
+    (sym h.0.4 ∙ act) in
+    let moved : left_by 0 x.act (value 0) ≡ Dropped (one_more (reason_in c.0) c.1) =
+    ap (λ (y : Act NatValue). left_by 0 y (value 0)) h.0.4 ∙ c.4 in
+    let there : (thread_after (x ∷ earlier) x.thread).hand ≡ Some c.0 =
+    ap (λ (b : Bool). (cond b x.after before).hand) (is_eq x.thread x.thread refl) ∙ c.2 in
+    (c.0, c.1, there, c.3, moved, c.5)
