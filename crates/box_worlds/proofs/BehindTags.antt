@@ -1,0 +1,49 @@
+-- A history of a box that looks through tags, behind them.
+use Rattle.std.proofs.Common.{◌≡◌, ℕ, ◌+◌, Bool, List, [], ◌∷◌, refl, sym, ap, ◌∙◌, subst, fun_ext, Option, None}
+use Rattle.std.specs.Prelude.{◌&&◌, cond, nat_eq}
+use Rattle.plain_text.specs.declared.packet.Packet.{Packet}
+use Rattle.plain_machine.specs.Program.{Meaning}
+use Rattle.plain_machine.specs.Machine.{Hand, Thread}
+use Rattle.plain_machine.specs.History.{Act, Took, Did, Emitted, Ended, Step, thread_after, value_after, IsHistory}
+use Rattle.tagged_box.specs.Tagged.{tagged_meaning}
+use Rattle.tagged_box.specs.Tags.{inputs_behind, hand_tag, hand_behind, thread_behind, act_behind, steps_behind}
+use Rattle.tagged_box.proofs.Moves.{values_same, thread_same}
+use Rattle.tagged_box.proofs.Runs.{run_behind}
+use Rattle.recovery_world.specs.World.{Setting, World, inputs_fed}
+use Rattle.box_worlds.specs.Worlds.{IsLedTo, IsOfWorld}
+use Rattle.box_worlds.specs.Outcomes.{drops_by, drops_of}
+use Rattle.box_worlds.proofs.WorldHistories.{legal_of_world}
+
+pub history_behind : {V : Type 0} (s : Setting V) (m : Meaning V) (inputs : ℕ → List Packet) (steps : List (Step V))
+    → s.meaning ≡ tagged_meaning s.tags m → IsHistory s.meaning inputs s.threads steps
+    → IsHistory m (inputs_behind s.tags inputs) s.threads (steps_behind s.tags steps)
+history_behind {V} s m inputs steps is h =
+    run_behind s.tags m inputs s.threads steps
+    (subst (λ (x : Meaning V). IsHistory x inputs s.threads steps) is h)
+
+pub value_behind : {V : Type 0} (s : Setting V) (m : Meaning V) (steps : List (Step V))
+    → s.meaning ≡ tagged_meaning s.tags m → value_after m (steps_behind s.tags steps) ≡ value_after s.meaning steps
+value_behind {V} s m steps is =
+    fun_ext (values_same s.tags m steps) ∙ ap (λ (x : Meaning V). value_after x steps) (sym is)
+
+-- What holds of the variables after each history of the box holds of them in each history of a world.
+pub in_world : {V : Type 0} (s : Setting V) (m : Meaning V) (P : (ℕ → V) → Type 0)
+    → ((inputs : ℕ → List Packet) (steps : List (Step V)) → IsHistory m inputs s.threads steps
+    → P (value_after m steps))
+    → s.meaning ≡ tagged_meaning s.tags m → (w : World V) (steps : List (Step V)) → IsLedTo s w → IsOfWorld s w steps
+    → P (value_after s.meaning steps)
+in_world s m P all is w steps led of =
+    subst P (value_behind s m steps is) (all (inputs_behind s.tags (inputs_fed s w.fed)) (steps_behind s.tags steps)
+    (history_behind s m (inputs_fed s w.fed) steps is (legal_of_world s w steps led of)))
+
+drops_by_same : {V : Type 0} (k : ℕ) (a : Act V) → drops_by (act_behind k a) ≡ drops_by a
+drops_by_same k (Took input) = refl
+drops_by_same k (Did entry left) = refl
+drops_by_same k (Emitted o) = refl
+drops_by_same k (Ended input) = refl
+
+pub drops_same : {V : Type 0} (t : ℕ) (tags : Bool) (steps : List (Step V))
+    → drops_of t (steps_behind tags steps) ≡ drops_of t steps
+drops_same t tags [] = refl
+drops_same t tags (x ∷ earlier) =
+    rw (drops_by_same (hand_tag tags x.after.hand) x.act, drops_same t tags earlier) refl

@@ -1,0 +1,12 @@
+pub mod WorldHistories
+pub mod BehindTags
+pub mod NatTables
+pub mod ThreadMoves
+pub mod SameOutputs
+pub mod SentSteps
+pub mod EachInput
+pub mod SettledInputs
+pub mod BoxInputs
+pub mod Translations
+pub mod WholeCapture
+pub mod CaptureOutcomes

@@ -1,0 +1,4 @@
+pub mod Worlds
+pub mod Boxes
+pub mod Outcomes
+pub mod Releases
