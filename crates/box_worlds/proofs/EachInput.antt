@@ -142,26 +142,26 @@ module _ {V : Type 0} (m : Meaning V) (packets : List Packet) (value : ℕ → V
   take_stands : (h : Hand) → StandsOn None (record { taken = taken + 1; hand = Some h }) Takes
   take_stands h old others own sum rest = (
     omega arith,
-    others 0 (omega arith) ∙ old.0,
-    λ j low high. others j (omega arith) ∙ old.1 j low (omega arith),
-    λ j high. others j (omega arith) ∙ old.2 j (omega arith),
+    others 0 (λ e. omega (arith, e)) ∙ old.0,
+    λ j low high. others j (λ e. omega (arith, e, high)) ∙ old.1 j low (omega (arith, high)),
+    λ j high. others j (λ e. omega (arith, e, high)) ∙ old.2 j (omega (arith, high)),
     let a = old.2 (taken + 1) (omega arith) in let b = old.3 in omega (arith, a, b, own, sum),
   )
 
   on_stands : (g h : Hand) (d : Effect V) → StandsOn (Some g) (record { taken = taken; hand = Some h }) d
   on_stands g h d old others own sum rest = (
     old.0,
-    others 0 (let a = old.0 in omega (arith, a)) ∙ old.1,
-    λ j low high. others j (omega arith) ∙ old.2 j low high,
-    λ j high. others j (omega arith) ∙ old.3 j high,
+    others 0 (λ e. let a = old.0 in omega (arith, a, e)) ∙ old.1,
+    λ j low high. others j (λ e. omega (arith, e, high)) ∙ old.2 j low high,
+    λ j high. others j (λ e. omega (arith, e, high)) ∙ old.3 j high,
     let b = old.4 in omega (arith, b, own, sum),
   )
 
   end_stands : (g : Hand) → StandsOn (Some g) (record { taken = taken; hand = None }) Ends
   end_stands g old others own sum rest = (
-    others 0 (let a = old.0 in omega (arith, a)) ∙ old.1,
+    others 0 (λ e. let a = old.0 in omega (arith, a, e)) ∙ old.1,
     λ j low high. by j low high (is_or taken j),
-    λ j high. others j (omega arith) ∙ old.3 j high,
+    λ j high. others j (λ e. omega (arith, e, high)) ∙ old.3 j high,
     rest refl,
   )
     where
@@ -170,7 +170,7 @@ module _ {V : Type 0} (m : Meaning V) (packets : List Packet) (value : ℕ → V
 
       by : (j : ℕ) → 1 ≤ j → j ≤ taken → (taken ≡ j) ⊎ (taken ≢ j) → new j ≡ 1
       by j low high (inl same) = subst (λ (k : ℕ). new k ≡ 1) same last
-      by j low high (inr other) = others j other ∙ old.2 j low (omega arith)
+      by j low high (inr other) = others j other ∙ old.2 j low (omega (arith, high, other))
 
   pub move_stands : (a : Option ℕ) (hand : Option Hand) (after : Thread) (d : Effect V)
       → held_move m packets value taken a hand ≡ Moves after d → StandsOn hand after d

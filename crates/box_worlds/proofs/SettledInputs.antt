@@ -92,9 +92,6 @@ module _ {V : Type 0} (s : Setting V) (w : World V) (steps : List (Step V))
   only o i =
       by o.emission.input refl (nat_lt (length (all_inputs s o.emission.thread)) o.emission.input) refl
     where
-      t : ℕ
-      t = o.emission.thread
-
       low : o.emission.thread < s.threads
       low =
           (sends_thread s.meaning (all_inputs s) s.threads steps o.emission o.after legal (settled.only o i)).0
