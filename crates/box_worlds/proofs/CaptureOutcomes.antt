@@ -26,7 +26,7 @@ use Rattle.balancer_box.specs.Balancer as balancer
 use Rattle.balancer_runs.specs.Packets as counting
 use Rattle.balancer_runs.proofs.Vanishing as vanishing
 use Rattle.box_worlds.specs.Boxes.{IsNat, IsBalancer}
-use Rattle.box_worlds.proofs.BehindTags.{history_behind, value_behind}
+use Rattle.box_worlds.proofs.BehindTags.{history_behind, value_behind, rest_behind}
 use Rattle.box_worlds.proofs.WholeCapture.{takes_by, takes, all_taken, released_sent}
 
 -- Behind tags as much is taken and sent out.
@@ -56,7 +56,7 @@ sent_same {V} tags (x ∷ earlier) = by x.act (sent_same tags earlier)
     by (Emitted o) old = omega arith
     by (Ended k) old = old
 
-module _ {V : Type 0} (m : Meaning V) (s : Setting V) (events : List Event) (report : List ℕ) (released : List Packet)
+module _ {V : Type 0} (s : Setting V) (events : List Event) (report : List ℕ) (released : List Packet)
     (schedule : List PlainMove) (l : Leaves s (events ++ Settle ∷ []) report released schedule) where
   taken_behind : 1 ≤ s.threads → takes (steps_behind s.tags l.steps) ≡ length s.packets
   taken_behind some =
@@ -69,11 +69,6 @@ module _ {V : Type 0} (m : Meaning V) (s : Setting V) (events : List Event) (rep
       ∙ (length-map l.world.released (λ (o : Sent). o.emission.packet)
       ∙ (released_sent s l.world l.steps l.finish.history (script_settled s events report released schedule l)
       ∙ sym (sent_same s.tags l.steps)))
-
-  rest_behind : (t : ℕ) → t < s.threads → (thread_after (steps_behind s.tags l.steps) t).hand ≡ None
-  rest_behind t low =
-      ap (λ (th : Thread). th.hand) (thread_same s.tags l.steps t)
-      ∙ ap (hand_behind s.tags) ((script_settled s events report released schedule l).ended t low)
 
 nat_takes : (steps : List (Step NatValue)) → takes steps ≡ taken_in steps
 nat_takes [] = refl
@@ -93,11 +88,11 @@ nat_counts n s events report released schedule is some l =
     let behind = steps_behind s.tags l.steps in
     let all = none_vanishes_at_rest n s.threads (inputs_behind s.tags (all_inputs s)) behind is.0
     (history_behind s (nat.nat_meaning n) (all_inputs s) l.steps is.1 l.finish.history)
-    (rest_behind (nat.nat_meaning n) s events report released schedule l) in
+    (rest_behind s l.world l.steps (script_settled s events report released schedule l)) in
     let value : drops_in (value_after (nat.nat_meaning n) behind 0) ≡ drops_in (value_after s.meaning l.steps 0) =
     ap (λ (f : ℕ → NatValue). drops_in (f 0)) (value_behind s (nat.nat_meaning n) l.steps is.1) in
-    let sent = released_behind (nat.nat_meaning n) s events report released schedule l in
-    let taken = sym (nat_takes behind) ∙ taken_behind (nat.nat_meaning n) s events report released schedule l some in
+    let sent = released_behind s events report released schedule l in
+    let taken = sym (nat_takes behind) ∙ taken_behind s events report released schedule l some in
     ap (λ (k : ℕ). k % 2 ^ 64) (omega (arith, sent, value)) ∙ (all ∙ ap (λ (k : ℕ). k % 2 ^ 64) taken)
 
 balancer_takes : (steps : List (Step BalancerValue)) → takes steps ≡ counting.packets_taken steps
@@ -131,13 +126,13 @@ balancer_counts b s events report released schedule is some l =
     let behind = steps_behind s.tags l.steps in
     let all = vanishing.none_vanishes_at_rest b s.threads (inputs_behind s.tags (all_inputs s)) behind is.0
     (history_behind s (balancer.balancer_meaning b) (all_inputs s) l.steps is.1 l.finish.history)
-    (rest_behind (balancer.balancer_meaning b) s events report released schedule l) in
+    (rest_behind s l.world l.steps (script_settled s events report released schedule l)) in
     let value : counting.packets_dropped b behind ≡ sum (counting.drop_counts (value_after s.meaning l.steps 0)) =
     ap (λ (f : ℕ → BalancerValue). sum (counting.drop_counts (f 0)))
     (value_behind s (balancer.balancer_meaning b) l.steps is.1) in
-    let sent = released_behind (balancer.balancer_meaning b) s events report released schedule l in
+    let sent = released_behind s events report released schedule l in
     let same = balancer_sent behind in
     let taken = sym (balancer_takes behind)
-    ∙ taken_behind (balancer.balancer_meaning b) s events report released schedule l some in
+    ∙ taken_behind s events report released schedule l some in
     ap (λ (k : ℕ). k % 2 ^ 64) (omega (arith, sent, same, value))
     ∙ (sym all ∙ ap (λ (k : ℕ). k % 2 ^ 64) taken)

@@ -10,3 +10,5 @@ pub mod BoxInputs
 pub mod Translations
 pub mod WholeCapture
 pub mod CaptureOutcomes
+pub mod BalancerLoads
+pub mod CausedDrops

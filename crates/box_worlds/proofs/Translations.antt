@@ -39,7 +39,7 @@ use Rattle.box_worlds.specs.Releases.{IsMadeOfInput, Translated, SentOn}
 use Rattle.box_worlds.proofs.WorldHistories.{led_sound, end_legal}
 use Rattle.box_worlds.proofs.BehindTags.{history_behind}
 
-fed_bytes : {V : Type 0} (s : Setting V) (n : ℕ) → All IsOfBytes s.packets → HaveBytes (inputs_fed s n)
+pub fed_bytes : {V : Type 0} (s : Setting V) (n : ℕ) → All IsOfBytes s.packets → HaveBytes (inputs_fed s n)
 fed_bytes s n all = inputs_have_bytes (record s { packets = take n s.packets }) (All-take IsOfBytes n s.packets all)
 
 -- What each emission of a history of the box is made of.

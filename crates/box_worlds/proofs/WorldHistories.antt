@@ -48,6 +48,11 @@ legal_of_world {V} s w steps led (inr (inl is)) =
 legal_of_world s w steps led (inr (inr (inl is))) = (copy_legal s w steps led is).1
 legal_of_world s w steps led (inr (inr (inr f))) = end_legal s w steps led f
 
+pub moment_legal : {V : Type 0} (s : Setting V) (w : World V) (steps part : List (Step V)) → IsLedTo s w
+    → IsOfWorld s w steps → IsEarlier part steps → IsHistory s.meaning (inputs_fed s w.fed) s.threads part
+moment_legal s w steps part led of early =
+    earlier_history s.meaning (inputs_fed s w.fed) s.threads part steps early (legal_of_world s w steps led of)
+
 -- one run in which the world ends sends all that was released
 pub sends_released : {V : Type 0} (s : Setting V) (w : World V) → IsLedTo s w
     → (run : List (Step V)) × IsFinish s w run

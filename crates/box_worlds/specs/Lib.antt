@@ -2,3 +2,4 @@ pub mod Worlds
 pub mod Boxes
 pub mod Outcomes
 pub mod Releases
+pub mod Drops
