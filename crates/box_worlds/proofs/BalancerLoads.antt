@@ -1,5 +1,5 @@
 -- The loads of the balancer's backends, in each history of a world.
-use Rattle.std.proofs.Common.{◌≡◌, ℕ, ◌+◌, ◌%◌, ◌^◌, ◌<◌, List, [], ◌∷◌, ◌++◌, length, sym, ap, ◌∙◌, subst, arith}
+use Rattle.std.proofs.Common.{◌≡◌, ℕ, ◌+◌, ◌%◌, ◌^◌, ◌<◌, List, [], ◌∷◌, ◌++◌, length, ap, subst, arith}
 use Rattle.plain_text.specs.declared.packet.Packet.{Packet}
 use Rattle.plain_machine.specs.declared.plain_move.PlainMove.{PlainMove}
 use Rattle.plain_machine.specs.History.{Step, thread_after, value_after}
@@ -18,8 +18,8 @@ use Rattle.box_worlds.specs.Worlds.{IsLedTo, IsOfWorld}
 use Rattle.box_worlds.specs.Boxes.{IsBalancer}
 use Rattle.box_worlds.proofs.BehindTags.{history_behind, value_behind, behind_world, rest_behind}
 
-pub are_charged : (b : Settings) (s : Setting BalancerValue) (w : World BalancerValue) (steps : List (Step BalancerValue))
-    (backend : ℕ) → IsBalancer b s → IsLedTo s w → IsOfWorld s w steps → backend < length b.backends
+pub are_charged : (b : Settings) (s : Setting BalancerValue) (w : World BalancerValue)
+    (steps : List (Step BalancerValue)) (backend : ℕ) → IsBalancer b s → IsLedTo s w → IsOfWorld s w steps → backend < length b.backends
     → IsCharged b s.threads backend (value_after s.meaning steps) (thread_after (steps_behind s.tags steps))
 are_charged b s w steps backend is led of low =
     subst (λ (value : ℕ → BalancerValue).

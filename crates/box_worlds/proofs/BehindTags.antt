@@ -1,13 +1,12 @@
 -- A history of a box that looks through tags, behind them.
-use Rattle.std.proofs.Common.{◌≡◌, ℕ, ◌+◌, ◌<◌, Bool, List, [], ◌∷◌, refl, sym, ap, ◌∙◌, subst, Option, None}
-use Rattle.std.specs.Prelude.{◌&&◌, cond, nat_eq}
+use Rattle.std.proofs.Common.{◌≡◌, ℕ, ◌<◌, Bool, List, [], ◌∷◌, refl, sym, ap, ◌∙◌, subst, None}
 use mathlib.Core.Path.{fun_ext}
 use Rattle.plain_text.specs.declared.packet.Packet.{Packet}
 use Rattle.plain_machine.specs.Program.{Meaning}
-use Rattle.plain_machine.specs.Machine.{Hand, Thread}
+use Rattle.plain_machine.specs.Machine.{Thread}
 use Rattle.plain_machine.specs.History.{Act, Took, Did, Emitted, Ended, Step, thread_after, value_after, IsHistory}
 use Rattle.tagged_box.specs.Tagged.{tagged_meaning}
-use Rattle.tagged_box.specs.Tags.{inputs_behind, hand_tag, hand_behind, thread_behind, act_behind, steps_behind}
+use Rattle.tagged_box.specs.Tags.{inputs_behind, hand_tag, hand_behind, act_behind, steps_behind}
 use Rattle.tagged_box.proofs.Moves.{values_same, thread_same}
 use Rattle.tagged_box.proofs.Runs.{run_behind}
 use Rattle.recovery_world.specs.World.{Setting, World, inputs_fed}

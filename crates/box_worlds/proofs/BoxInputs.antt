@@ -2,7 +2,7 @@
 -- in what a settling comes to.
 use Rattle.std.proofs.Common.{◌≡◌, ◌≢◌, ℕ, ◌+◌, Bool, true, false, List, [], ◌∷◌, ◌++◌, refl, sym, ap, ◌∙◌, subst}
 use Rattle.std.proofs.Common.{inl, inr, ◌⊎◌, arith, Option, Some, None}
-use Rattle.std.specs.Prelude.{nat_eq, cond, if◌then◌else◌}
+use Rattle.std.specs.Prelude.{nat_eq, if◌then◌else◌}
 use Rattle.plain_text.specs.declared.packet.Packet.{Packet}
 use Rattle.entry_order.specs.declared.what.What.{What}
 use Rattle.entry_order.specs.declared.what.What.TheVariants.{Access, Read, Clock, Draw}
@@ -12,11 +12,11 @@ use Rattle.plain_machine.specs.declared.plain_move.PlainMove.{PlainMove}
 use Rattle.plain_machine.specs.Program.{Meaning}
 use Rattle.plain_machine.specs.Machine.{Hand, Thread, Effect, Takes, Touches, Looks, HearsClock, HearsDraw, Sends, Ends}
 use Rattle.plain_machine.specs.Machine.{Moves, held_move}
-use Rattle.plain_machine.specs.History.{Act, Took, Did, Emitted, Ended, Step, sent_more, sent_of, outputs, act_of}
+use Rattle.plain_machine.specs.History.{Act, Took, Did, Emitted, Ended, Step, act_of}
 use Rattle.plain_machine.specs.History.{thread_after, value_after, IsHistory}
 use Rattle.plain_machine.proofs.Histories.{not_eq, is_eq}
 use Rattle.tagged_box.specs.Tagged.{tagged_meaning}
-use Rattle.tagged_box.specs.Tags.{hand_behind, thread_behind, inputs_behind, steps_behind}
+use Rattle.tagged_box.specs.Tags.{hand_behind, inputs_behind, steps_behind}
 use Rattle.tagged_box.proofs.Moves.{thread_same, outputs_same}
 use Rattle.recovery_world.specs.declared.event.Event.{Event}
 use Rattle.recovery_world.specs.declared.event.Event.TheVariants.{Settle}

@@ -1,17 +1,13 @@
 -- What a settling released, and what the box's own counts of drops have, are the packets of the capture.
-use Rattle.std.proofs.Common.{◌≡◌, ℕ, ◌+◌, ◌%◌, ◌^◌, ◌≤◌, ◌<◌, Bool, List, [], ◌∷◌, ◌++◌, length, refl, sym, ap, ◌∙◌}
-use Rattle.std.proofs.Common.{subst, arith, Option, Some, None}
+use Rattle.std.proofs.Common.{◌≡◌, ℕ, ◌+◌, ◌%◌, ◌^◌, ◌≤◌, Bool, List, [], ◌∷◌, ◌++◌, length, refl, sym, ap, ◌∙◌}
+use Rattle.std.proofs.Common.{arith}
 use Rattle.std.specs.Prelude.{sum}
 use Rattle.std.proofs.lemmas.List.{length-map}
 use Rattle.plain_text.specs.declared.packet.Packet.{Packet}
 use Rattle.plain_machine.specs.declared.plain_move.PlainMove.{PlainMove}
-use Rattle.plain_machine.specs.Program.{Meaning}
-use Rattle.plain_machine.specs.Machine.{Hand, Thread}
-use Rattle.plain_machine.specs.History.{Act, Took, Did, Emitted, Ended, Step, sent_more, sent_of, thread_after}
+use Rattle.plain_machine.specs.History.{Act, Took, Did, Emitted, Ended, Step, sent_more, sent_of}
 use Rattle.plain_machine.specs.History.{value_after}
-use Rattle.tagged_box.specs.Tagged.{tagged_meaning}
-use Rattle.tagged_box.specs.Tags.{hand_tag, hand_behind, act_behind, inputs_behind, steps_behind}
-use Rattle.tagged_box.proofs.Moves.{thread_same}
+use Rattle.tagged_box.specs.Tags.{hand_tag, act_behind, inputs_behind, steps_behind}
 use Rattle.recovery_world.specs.declared.event.Event.{Event}
 use Rattle.recovery_world.specs.declared.event.Event.TheVariants.{Settle}
 use Rattle.recovery_world.specs.World.{Setting, Sent, all_inputs}
@@ -19,7 +15,7 @@ use Rattle.recovery_world.specs.Files.{Leaves}
 use Rattle.recovery_laws.proofs.Settlings.{script_settled}
 use Rattle.nat_box.specs.declared.value.NatValue.{NatValue}
 use Rattle.nat_box.specs.Nat as nat
-use Rattle.nat_runs.specs.Passing.{taken_by, taken_in, sent_in, drops_in}
+use Rattle.nat_runs.specs.Passing.{taken_by, taken_in, drops_in}
 use Rattle.nat_runs.proofs.Passing.{none_vanishes_at_rest}
 use Rattle.balancer_box.specs.declared.value.BalancerValue.{BalancerValue}
 use Rattle.balancer_box.specs.Balancer as balancer
@@ -74,7 +70,8 @@ nat_takes : (steps : List (Step NatValue)) → takes steps ≡ taken_in steps
 nat_takes [] = refl
 nat_takes (x ∷ earlier) = by x.act (nat_takes earlier)
   where
-    by : (a : Act NatValue) → takes earlier ≡ taken_in earlier → takes_by a + takes earlier ≡ taken_by a + taken_in earlier
+    by : (a : Act NatValue) → takes earlier ≡ taken_in earlier
+        → takes_by a + takes earlier ≡ taken_by a + taken_in earlier
     by (Took k) old = omega arith
     by (Did e left) old = omega arith
     by (Emitted o) old = omega arith

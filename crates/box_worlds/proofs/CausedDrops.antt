@@ -8,7 +8,6 @@ use Rattle.entry_order.specs.declared.what.What.TheVariants.{Access}
 use Rattle.plain_machine.specs.Program.{Meaning}
 use Rattle.plain_machine.specs.Machine.{Hand, Thread}
 use Rattle.plain_machine.specs.History.{Did, Step, thread_after, IsHistory}
-use Rattle.plain_machine.specs.Agree.{IsEarlier}
 use Rattle.tagged_frames.specs.Tags.{behind_tag}
 use Rattle.tagged_box.specs.Tagged.{tagged_meaning}
 use Rattle.tagged_box.specs.Tags.{inputs_behind, hand_tag, hand_behind, act_behind, step_behind, steps_behind}

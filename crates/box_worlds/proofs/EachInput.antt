@@ -2,7 +2,7 @@
 -- took was sent out or counted exactly once, but for the one in hand.
 use Rattle.std.proofs.Common.{◌≡◌, ◌≢◌, ℕ, ◌+◌, ◌≤◌, ◌<◌, List, [], ◌∷◌, refl, sym, ap, ◌∙◌, subst, inl, inr, ◌⊎◌}
 use Rattle.std.proofs.Common.{arith, Option, Some, None}
-use Rattle.std.specs.Prelude.{nat_eq, cond, if◌then◌else◌}
+use Rattle.std.specs.Prelude.{nat_eq, if◌then◌else◌}
 use Rattle.plain_text.specs.declared.packet.Packet.{Packet}
 use Rattle.entry_order.proofs.Order.{is_or}
 use Rattle.plain_machine.specs.Program.{Meaning}
@@ -12,7 +12,7 @@ use Rattle.plain_machine.specs.History.{Act, Step, sent_more, sent_of, outputs, 
 use Rattle.plain_machine.specs.History.{IsHistory}
 use Rattle.plain_machine.proofs.Histories.{not_eq, is_eq}
 use Rattle.box_worlds.specs.Outcomes.{drops_by, drops_of, drops_with}
-use Rattle.box_worlds.proofs.ThreadMoves.{IsBetween, by_move}
+use Rattle.box_worlds.proofs.ThreadMoves.{by_move}
 use Rattle.box_worlds.proofs.SentSteps.{sends_by, sends_with}
 
 -- how often the thread sent out or counted what it had in hand, of an input and in all

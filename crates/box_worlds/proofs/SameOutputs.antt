@@ -3,7 +3,6 @@ use Rattle.std.proofs.Common.{◌≡◌, ℕ, ◌+◌, ◌≤◌, Bool, true, fa
 use Rattle.std.proofs.Common.{inr, ◌⊎◌, arith}
 use Rattle.std.specs.Prelude.{nat_eq, ◌&&◌}
 use Rattle.std.proofs.lemmas.Bool.Decides.{nat_tests}
-use Rattle.plain_machine.specs.declared.emission.Emission.{Emission}
 use Rattle.recovery_world.specs.World.{Sent}
 use Rattle.recovery_world.specs.Events.{IsAmong}
 use Rattle.recovery_laws.specs.Sound.{times}

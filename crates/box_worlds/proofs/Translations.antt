@@ -1,6 +1,6 @@
 -- What was released is made of its input, in each run in which a world ends.
-use Rattle.std.proofs.Common.{◌≡◌, ℕ, ◌+◌, ◌≤◌, Bool, List, ◌∷◌, refl, sym, ap, ◌∙◌, subst, arith, Option, Some}
-use Rattle.std.specs.Prelude.{◌-◌, All, take, drop, slice_get, option_map}
+use Rattle.std.proofs.Common.{◌≡◌, ℕ, ◌+◌, ◌≤◌, List, ◌∷◌, sym, ap, ◌∙◌, subst, arith, Some}
+use Rattle.std.specs.Prelude.{◌-◌, All, take, slice_get, option_map}
 use Rattle.std.proofs.lemmas.List.Elements.{All-take}
 use Rattle.std.proofs.lemmas.Option.{slice_get-map}
 use Rattle.plain_text.specs.Octets.{IsOfBytes}
@@ -9,7 +9,7 @@ use Rattle.entry_order.specs.Log.{entries}
 use Rattle.plain_machine.specs.declared.emission.Emission.{Emission}
 use Rattle.plain_machine.specs.Program.{Meaning}
 use Rattle.plain_machine.specs.History.{Act, Emitted, Step, log_of, sent_more, sent_of, IsHistory}
-use Rattle.plain_machine.specs.Agree.{IsEarlier, SendsAfter}
+use Rattle.plain_machine.specs.Agree.{IsEarlier}
 use Rattle.plain_machine.proofs.Histories.{earlier_history, did_emission}
 use Rattle.plain_machine.proofs.Agreement.{sends_at}
 use Rattle.tagged_frames.specs.Tags.{without_first, behind_tag, with_behind}
@@ -126,7 +126,8 @@ module _ {V : Type 0} (s : Setting V) (m : Meaning V) (SentAs : ℕ → List (St
             packet = r.4;
           }
 
-nat_makes : (n : nat.Settings) → lawful_nat.AreSettings n → (threads : ℕ) → Makes (nat.nat_meaning n) threads (Translated n)
+nat_makes : (n : nat.Settings) → lawful_nat.AreSettings n → (threads : ℕ)
+    → Makes (nat.nat_meaning n) threads (Translated n)
 nat_makes n is threads inputs x earlier o p bytes h act given =
     subst (nat_emissions.IsTranslationOf n (nat_emissions.trail_of n x.thread earlier) o.packet.bytes) given
     (emissions_translate n threads inputs x earlier o is bytes h act).1

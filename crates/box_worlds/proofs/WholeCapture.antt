@@ -1,8 +1,7 @@
 -- In a settled world the packets that were taken are those of the capture, and those that were released are what the
 -- run sent out.
-use Rattle.std.proofs.Common.{◌≡◌, ◌≢◌, ℕ, ◌+◌, ◌*◌, ◌≤◌, ◌<◌, Bool, true, List, [], ◌∷◌, ◌++◌, length, refl, sym, ap}
-use Rattle.std.proofs.Common.{◌∙◌, subst, arith, Option, Some, None}
-use Rattle.std.specs.Prelude.{nat_eq, cond, slice_get}
+use Rattle.std.proofs.Common.{◌≡◌, ◌≢◌, ℕ, ◌+◌, ◌≤◌, true, List, [], ◌∷◌, length, refl, sym, ap}
+use Rattle.std.proofs.Common.{◌∙◌, arith, Option}
 use Rattle.plain_text.specs.declared.packet.Packet.{Packet}
 use Rattle.entry_order.specs.Stamps.{sum_below}
 use Rattle.entry_order.proofs.Weights.{sum_below_same}

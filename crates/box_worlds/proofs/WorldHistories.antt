@@ -1,10 +1,9 @@
 -- Each history of a world that events lead to is one of the plain machine, on the packets that were fed.
-use Rattle.std.proofs.Common.{◌≡◌, ℕ, List, sym, ap, subst, inl, inr, ◌⊎◌, Option, Some}
-use Rattle.plain_text.specs.declared.packet.Packet.{Packet}
+use Rattle.std.proofs.Common.{◌≡◌, List, sym, subst, inl, inr, Some}
 use Rattle.plain_machine.specs.History.{Step, IsHistory}
 use Rattle.plain_machine.specs.Agree.{IsEarlier, SendsAfter}
 use Rattle.plain_machine.proofs.Histories.{earlier_history}
-use Rattle.recovery_world.specs.World.{Setting, Sent, World, opening, inputs_fed, all_inputs}
+use Rattle.recovery_world.specs.World.{Setting, Sent, World, opening, inputs_fed}
 use Rattle.recovery_world.specs.Events.{IsAmong}
 use Rattle.recovery_world.specs.Finish.{IsFinish}
 use Rattle.recovery_laws.specs.Sound.{Sound}

@@ -6,7 +6,6 @@ use Rattle.plain_machine.specs.History.{Emitted, Step}
 use Rattle.plain_machine.specs.Agree.{IsEarlier}
 use Rattle.tagged_box.specs.Tags.{steps_behind}
 use Rattle.recovery_world.specs.World.{Setting, Sent, World, inputs_fed}
-use Rattle.recovery_world.specs.Finish.{IsFinish}
 use Rattle.nat_box.specs.declared.value.NatValue.{NatValue}
 use Rattle.nat_box.specs.Nat as nat
 use Rattle.nat_box.specs.Emissions as nat_emissions
