@@ -65,6 +65,15 @@ taken_on : {V : Type 0} (m : Meaning V) (packets : List Packet) (value : ℕ →
 taken_on m packets value taken = by_move m packets value taken (λ hand after d. after.taken ≡ takes_of d + taken)
     (λ p. omega arith) (λ h place d between. between_takes d taken between) (λ h. omega arith)
 
+pub taken_more : {V : Type 0} (m : Meaning V) (inputs : ℕ → List Packet) (threads : ℕ) (x : Step V)
+    (earlier : List (Step V)) → IsHistory m inputs threads (x ∷ earlier)
+    → x.after.taken ≡ takes_by x.act + (thread_after earlier x.thread).taken
+taken_more {V} m inputs threads x earlier h =
+    taken_on m (inputs x.thread) (value_after m earlier) (thread_after earlier x.thread).taken h.0.1
+    (thread_after earlier x.thread).hand x.after h.0.2 h.0.3
+    ∙ ap (λ (n : ℕ). n + (thread_after earlier x.thread).taken)
+    (sym (ap (λ (a : Act V). takes_by a) h.0.4 ∙ act_takes x.thread x.after.taken earlier h.0.2))
+
 sum_taken : {V : Type 0} (m : Meaning V) (inputs : ℕ → List Packet) (threads : ℕ) (steps : List (Step V))
     → IsHistory m inputs threads steps → sum_below threads (λ t. (thread_after steps t).taken) ≡ takes steps
 sum_taken m inputs threads [] h = sum_of_none threads _ (λ t low. refl)
@@ -75,11 +84,7 @@ sum_taken {V} m inputs threads (x ∷ earlier) h =
     let old = sum_taken m inputs threads earlier h.1 in
     let own : (thread_after (x ∷ earlier) x.thread).taken ≡ x.after.taken =
     ap (λ (y : Thread). y.taken) moved in
-    let more = taken_on m (inputs x.thread) (value_after m earlier) (thread_after earlier x.thread).taken h.0.1
-    (thread_after earlier x.thread).hand x.after h.0.2 h.0.3 in
-    let act : takes_by x.act ≡ takes_of h.0.2 =
-    ap (λ (a : Act V). takes_by a) h.0.4 ∙ act_takes x.thread x.after.taken earlier h.0.2 in
-    omega (arith, one, old, own, more, act)
+    let more = taken_more m inputs threads x earlier h in omega (arith, one, old, own, more)
   where
     moved : thread_after (x ∷ earlier) x.thread ≡ x.after
     moved = rw (is_eq x.thread x.thread refl) refl

@@ -1,4 +1,5 @@
-//! The laws of the boxes in all worlds. Each is proved, and does nothing: a caller has it by the call.
+//! The laws of the boxes in all worlds. Each is proved, and does nothing: a caller has it by the
+//! call.
 ghost use Rattle.std.specs.Prelude.{◌≡◌, ℕ, ◌+◌, ◌%◌, ◌^◌, ◌<◌, ◌≤◌, All, max, sum, List, []};
 ghost use Rattle.std.specs.Prelude.{◌∷◌, ◌++◌, length, Some};
 ghost use Rattle.plain_text.specs.Octets.{IsOfBytes};
@@ -127,24 +128,24 @@ pub fn released_packets_are_translations()
         → IsMadeOfInput s w o (SentOn b) run }
 {}
 
-/// Each drop that is counted in a world that a script leads to, and of packets of bytes, has its
-/// cause, in what its packet met: the counts are those of the master, of its snapshots and of each
-/// run in which the world ends.
+/// Each drop that is counted in a world that a script leads to, and of packets of bytes, is one of
+/// an input that has a cause for it, in what it met: a drop of the master, of its snapshots and of
+/// each run in which the world ends.
 pub fn drops_have_causes_over_crashes()
     ensures nat { (n : nat.Settings) (s : Setting NatValue) (w : World NatValue)
         (steps : List (Step NatValue)) → IsNat n s → All IsOfBytes s.packets → IsLedTo s w
-        → IsOfWorld s w steps → DropsAreCaused s (NatCause n) steps }
+        → IsOfWorld s w steps → DropsAreCaused s w (NatCause n) steps }
     ensures balancer { (b : balancer.Settings) (s : Setting BalancerValue) (w : World BalancerValue)
         (steps : List (Step BalancerValue)) → IsBalancer b s → All IsOfBytes s.packets
-        → IsLedTo s w → IsOfWorld s w steps → DropsAreCaused s (BalancerCause b) steps }
+        → IsLedTo s w → IsOfWorld s w steps → DropsAreCaused s w (BalancerCause b) steps }
 {}
 
 /// A script that ends in a settling, whatever came before it: each packet of the capture was
 /// released exactly once and never counted as dropped, or was counted exactly once and not
 /// released, in the run in which the world ends. So of each thread, the packets that were released
-/// and those that it counted are all its inputs (`nat`, `balancer`). And the packets of the released
-/// capture, and those that the box's own counts of drops have, are all packets of the capture, modulo
-/// 2^64 (`nat_counts`, `balancer_counts`).
+/// and those that it counted are all its inputs (`nat`, `balancer`). And the packets of the
+/// released capture, and those that the box's own counts of drops have, are all packets of the
+/// capture, modulo 2^64 (`nat_counts`, `balancer_counts`).
 pub fn settled_packets_left_or_were_counted()
     ensures nat { (n : nat.Settings) (s : Setting NatValue) (events : List Event)
         (report : List ℕ) (released : List Packet) (schedule : List PlainMove) → IsNat n s
