@@ -19,8 +19,10 @@ use Rattle.tagged_box.specs.Tagged.{tagged_meaning}
 use Rattle.tagged_box.specs.Tags.{hand_behind, inputs_behind, steps_behind}
 use Rattle.tagged_box.proofs.Moves.{thread_same, outputs_same}
 use Rattle.recovery_world.specs.declared.event.Event.{Event}
-use Rattle.recovery_world.specs.declared.event.Event.TheVariants.{Settle}
-use Rattle.recovery_world.specs.World.{Setting, all_inputs}
+use Rattle.recovery_world.specs.declared.event.Event.TheVariants.{Settle, Flow}
+use Rattle.recovery_world.specs.declared.event.Outcome.{Outcome}
+use Rattle.recovery_world.specs.World.{Setting, Sent, World, inputs_fed, all_inputs}
+use Rattle.recovery_world.specs.Many.{OnAny}
 use Rattle.recovery_world.specs.Files.{Leaves}
 use Rattle.recovery_laws.proofs.Settlings.{script_settled}
 use Rattle.nat_box.specs.declared.value.NatValue.{NatValue}
@@ -33,25 +35,28 @@ use Rattle.balancer_box.specs.Balancer as balancer
 use Rattle.balancer_box.specs.Lawful as lawful_balancer
 use Rattle.balancer_runs.specs.Packets.{outcomes_by, outcomes}
 use Rattle.balancer_runs.proofs.Settling.{each_has_one}
+use Rattle.box_worlds.specs.Worlds.{IsLedTo}
 use Rattle.box_worlds.specs.Boxes.{IsNat, IsBalancer}
 use Rattle.box_worlds.specs.Outcomes.{drops_by, drops_of, LeftOrCounted}
 use Rattle.box_worlds.proofs.ThreadMoves.{IsBetween, by_move}
 use Rattle.box_worlds.proofs.BehindTags.{history_behind, drops_same}
 use Rattle.box_worlds.proofs.EachInput.{went_by, all_went, all_of_step, all_of_other}
-use Rattle.box_worlds.proofs.SettledInputs.{left_or_counted}
+use Rattle.box_worlds.proofs.WorldHistories.{led_sound}
+use Rattle.box_worlds.proofs.FlowedInputs.{flow_left}
+use Rattle.box_worlds.proofs.SettledInputs.{settled_left}
 
 -- A box that rests so does so behind tags.
 behind_rests : {V : Type 0} (s : Setting V) (m : Meaning V) → s.meaning ≡ tagged_meaning s.tags m
     → ((inputs : ℕ → List Packet) (steps : List (Step V)) → IsHistory m inputs s.threads steps → (t : ℕ)
     → (thread_after steps t).hand ≡ None → all_went t steps ≡ (thread_after steps t).taken)
-    → (steps : List (Step V)) → IsHistory s.meaning (all_inputs s) s.threads steps → (t : ℕ)
+    → (inputs : ℕ → List Packet) (steps : List (Step V)) → IsHistory s.meaning inputs s.threads steps → (t : ℕ)
     → (thread_after steps t).hand ≡ None → all_went t steps ≡ (thread_after steps t).taken
-behind_rests s m is rests steps h t none =
+behind_rests s m is rests inputs steps h t none =
     let th = thread_same s.tags steps t in
     let hand : (thread_after (steps_behind s.tags steps) t).hand ≡ None =
     ap (λ (y : Thread). y.hand) th ∙ ap (hand_behind s.tags) none in
-    let all = rests (inputs_behind s.tags (all_inputs s)) (steps_behind s.tags steps)
-    (history_behind s m (all_inputs s) steps is h) t hand in
+    let all = rests (inputs_behind s.tags inputs) (steps_behind s.tags steps) (history_behind s m inputs steps is h) t
+    hand in
     let taken : (thread_after (steps_behind s.tags steps) t).taken ≡ (thread_after steps t).taken =
     ap (λ (y : Thread). y.taken) th in
     let sent = outputs_same t s.tags steps in
@@ -63,9 +68,9 @@ settled_so : {V : Type 0} (m : Meaning V) (s : Setting V) (events : List Event) 
     (released : List Packet) (schedule : List PlainMove) → s.meaning ≡ tagged_meaning s.tags m
     → ((inputs : ℕ → List Packet) (steps : List (Step V)) → IsHistory m inputs s.threads steps → (t : ℕ)
     → (thread_after steps t).hand ≡ None → all_went t steps ≡ (thread_after steps t).taken)
-    → (l : Leaves s (events ++ Settle ∷ []) report released schedule) → LeftOrCounted s l.world l.steps
+    → (l : Leaves s (events ++ Settle ∷ []) report released schedule) → LeftOrCounted s.threads (all_inputs s) l.world.released l.steps
 settled_so m s events report released schedule is rests l =
-    left_or_counted s l.world l.steps (behind_rests s m is rests) l.finish.history
+    settled_left s l.world l.steps (behind_rests s m is rests (all_inputs s)) l.finish.history
     (script_settled s events report released schedule l)
 
 -- The NAT
@@ -94,9 +99,17 @@ nat_rests n is threads inputs steps h t none =
     let waiting : waits (thread_after steps t).hand ≡ 0 = ap waits none in
     let counted = all_counted t steps in omega (arith, passed, waiting, counted)
 
+pub nat_flow : (n : nat.Settings) (s : Setting NatValue) (w new : World NatValue) (count : ℕ) (to : Outcome)
+    (freed : List Sent) → IsNat n s → IsLedTo s w → w.up ≡ true → OnAny s w (Flow count) to freed new
+    → LeftOrCounted s.threads (inputs_fed s new.fed) new.released new.past
+nat_flow n s w new count to freed is led up on =
+    flow_left s w new count to freed (led_sound s w led) up on
+    (behind_rests s (nat.nat_meaning n) is.1
+    (λ inputs steps h t none. nat_rests n is.0 s.threads inputs steps h t none) (inputs_fed s new.fed))
+
 pub nat_left_or_counted : (n : nat.Settings) (s : Setting NatValue) (events : List Event) (report : List ℕ)
     (released : List Packet) (schedule : List PlainMove) → IsNat n s
-    → (l : Leaves s (events ++ Settle ∷ []) report released schedule) → LeftOrCounted s l.world l.steps
+    → (l : Leaves s (events ++ Settle ∷ []) report released schedule) → LeftOrCounted s.threads (all_inputs s) l.world.released l.steps
 nat_left_or_counted n s events report released schedule is l =
     settled_so (nat.nat_meaning n) s events report released schedule is.1
     (λ inputs steps h t none. nat_rests n is.0 s.threads inputs steps h t none) l
@@ -225,7 +238,15 @@ module _ (b : balancer.Settings) (is : lawful_balancer.AreSettings b) (threads :
 
 pub balancer_left_or_counted : (b : balancer.Settings) (s : Setting BalancerValue) (events : List Event)
     (report : List ℕ) (released : List Packet) (schedule : List PlainMove) → IsBalancer b s
-    → (l : Leaves s (events ++ Settle ∷ []) report released schedule) → LeftOrCounted s l.world l.steps
+    → (l : Leaves s (events ++ Settle ∷ []) report released schedule) → LeftOrCounted s.threads (all_inputs s) l.world.released l.steps
 balancer_left_or_counted b s events report released schedule is l =
     settled_so (balancer.balancer_meaning b) s events report released schedule is.1
     (λ inputs steps h t none. balancer_rests b is.0 s.threads inputs steps h t none) l
+
+pub balancer_flow : (b : balancer.Settings) (s : Setting BalancerValue) (w new : World BalancerValue) (count : ℕ)
+    (to : Outcome) (freed : List Sent) → IsBalancer b s → IsLedTo s w → w.up ≡ true
+    → OnAny s w (Flow count) to freed new → LeftOrCounted s.threads (inputs_fed s new.fed) new.released new.past
+balancer_flow b s w new count to freed is led up on =
+    flow_left s w new count to freed (led_sound s w led) up on
+    (behind_rests s (balancer.balancer_meaning b) is.1
+    (λ inputs steps h t none. balancer_rests b is.0 s.threads inputs steps h t none) (inputs_fed s new.fed))

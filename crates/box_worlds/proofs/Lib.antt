@@ -6,6 +6,7 @@ pub mod SameOutputs
 pub mod SentSteps
 pub mod EachInput
 pub mod SettledInputs
+pub mod FlowedInputs
 pub mod BoxInputs
 pub mod Translations
 pub mod WholeCapture

@@ -1,13 +1,17 @@
--- In a settled world each input was released once, or counted once.
+-- Where all that was sent out is released, and all inputs are ended, each input was released once, or counted once.
 use Rattle.std.proofs.Common.{◌≡◌, ℕ, zero, suc, ◌+◌, ◌≤◌, ◌<◌, Bool, true, false, cond, List, [], ◌∷◌}
 use Rattle.std.proofs.Common.{length, refl, sym, ap, ◌∙◌, subst, inl, inr, arith, Option, None}
+use Rattle.plain_text.specs.declared.packet.Packet.{Packet}
 use Rattle.std.specs.Prelude.{nat_eq, nat_lt, ◌&&◌}
 use Rattle.std.proofs.lemmas.Bool.Decides.{nat_tests}
+use Rattle.plain_machine.specs.Program.{Meaning}
 use Rattle.plain_machine.specs.Machine.{Hand}
 use Rattle.plain_machine.specs.History.{Step, sent_of, outputs, thread_after, IsHistory}
+use Rattle.plain_machine.specs.Agree.{SendsAfter}
 use Rattle.plain_machine.proofs.Histories.{is_eq}
 use Rattle.recovery_world.specs.World.{Setting, Sent, World, all_inputs}
 use Rattle.recovery_world.specs.Events.{IsAmong}
+use Rattle.recovery_laws.specs.Sound.{times}
 use Rattle.recovery_laws.specs.Settled.{IsSettled}
 use Rattle.recovery_laws.proofs.Finishes.{sends_thread}
 use Rattle.settled_boxes.specs.EachOnce.{times_sent}
@@ -49,73 +53,90 @@ either : (left counted : ℕ) → left + counted ≡ 1 → IsEither left counted
 either zero counted e = inr (refl, omega arith)
 either (suc left) counted e = inl (omega arith, omega arith)
 
-module _ {V : Type 0} (s : Setting V) (w : World V) (steps : List (Step V))
-    (rests : (run : List (Step V)) → IsHistory s.meaning (all_inputs s) s.threads run → (t : ℕ)
-    → (thread_after run t).hand ≡ None → all_went t run ≡ (thread_after run t).taken)
-    (legal : IsHistory s.meaning (all_inputs s) s.threads steps) (settled : IsSettled s w steps) where
-  same : (p : Sent → Bool) → how_many p w.released ≡ how_many p (sents steps)
+-- The steps sent out exactly what was released, each once, and each thread has taken all its inputs and ended them.
+module _ {V : Type 0} (m : Meaning V) (inputs : ℕ → List Packet) (threads : ℕ) (released : List Sent)
+    (steps : List (Step V))
+    (rests : (run : List (Step V)) → IsHistory m inputs threads run → (t : ℕ) → (thread_after run t).hand ≡ None
+    → all_went t run ≡ (thread_after run t).taken)
+    (legal : IsHistory m inputs threads steps)
+    (taken : (t : ℕ) → t < threads → (thread_after steps t).taken ≡ length (inputs t))
+    (ended : (t : ℕ) → t < threads → (thread_after steps t).hand ≡ None)
+    (all_out : (o : Sent) → SendsAfter steps o.emission o.after → IsAmong o released)
+    (only_sent : (o : Sent) → IsAmong o released → SendsAfter steps o.emission o.after)
+    (sent_one : (t j : ℕ) → times t j released ≤ 1) where
+  same : (p : Sent → Bool) → how_many p released ≡ how_many p (sents steps)
   same p =
-      as_many p w.released (sents steps) settled.once
-      (λ t j. (sent_once s.meaning (all_inputs s) s.threads steps legal t j).0)
-      (λ o i. sends_among steps o (settled.only o i)) (λ o i. settled.released o (among_sends steps o i))
+      as_many p released (sents steps) sent_one
+      (λ t j. (sent_once m inputs threads steps legal t j).0)
+      (λ o i. sends_among steps o (only_sent o i)) (λ o i. all_out o (among_sends steps o i))
 
-  same_times : (t j : ℕ) → times_sent t j w.released ≡ sends_with t j steps
+  same_times : (t j : ℕ) → times_sent t j released ≡ sends_with t j steps
   same_times t j =
-      as_times t j w.released
+      as_times t j released
       ∙ (same (is_of_input t j)
-      ∙ (sym (as_times t j (sents steps)) ∙ of_input s.meaning (all_inputs s) s.threads steps legal t j))
+      ∙ (sym (as_times t j (sents steps)) ∙ of_input m inputs threads steps legal t j))
 
-  same_outputs : (t : ℕ) → outputs_in t w.released ≡ outputs t (sent_of steps)
+  same_outputs : (t : ℕ) → outputs_in t released ≡ outputs t (sent_of steps)
   same_outputs t =
-      as_outputs t w.released
+      as_outputs t released
       ∙ (same (is_of_thread t) ∙ (sym (as_outputs t (sents steps)) ∙ of_thread t steps))
 
-  stood : (t : ℕ) → t < s.threads
-      → Stands None (length (all_inputs s t)) (λ j. went t j steps) (all_went t steps)
+  stood : (t : ℕ) → t < threads
+      → Stands None (length (inputs t)) (λ j. went t j steps) (all_went t steps)
   stood t low =
-      subst (λ (n : ℕ). Stands None n (λ j. went t j steps) (all_went t steps)) (settled.taken t low)
+      subst (λ (n : ℕ). Stands None n (λ j. went t j steps) (all_went t steps)) (taken t low)
       (subst (λ (hand : Option Hand).
-      Stands hand (thread_after steps t).taken (λ j. went t j steps) (all_went t steps)) (settled.ended t low)
-      (run_stands s.meaning (all_inputs s) s.threads rests steps legal t))
+      Stands hand (thread_after steps t).taken (λ j. went t j steps) (all_went t steps)) (ended t low)
+      (run_stands m inputs threads rests steps legal t))
 
-  each : (t k : ℕ) → t < s.threads → k < length (all_inputs s t)
-      → IsEither (times_sent t (k + 1) w.released) (drops_with t (k + 1) steps)
+  each : (t k : ℕ) → t < threads → k < length (inputs t)
+      → IsEither (times_sent t (k + 1) released) (drops_with t (k + 1) steps)
   each t k low high =
-      either (times_sent t (k + 1) w.released) (drops_with t (k + 1) steps)
+      either (times_sent t (k + 1) released) (drops_with t (k + 1) steps)
       (ap (λ (n : ℕ). n + drops_with t (k + 1) steps) (same_times t (k + 1))
       ∙ (stood t low).1 (k + 1) (omega arith) (omega arith))
 
-  only : (o : Sent) → IsAmong o w.released
-      → (k : ℕ) × (k < length (all_inputs s o.emission.thread)) × (o.emission.input ≡ k + 1)
+  only : (o : Sent) → IsAmong o released
+      → (k : ℕ) × (k < length (inputs o.emission.thread)) × (o.emission.input ≡ k + 1)
   only o i =
-      by o.emission.input refl (nat_lt (length (all_inputs s o.emission.thread)) o.emission.input) refl
+      by o.emission.input refl (nat_lt (length (inputs o.emission.thread)) o.emission.input) refl
     where
-      low : o.emission.thread < s.threads
+      low : o.emission.thread < threads
       low =
-          (sends_thread s.meaning (all_inputs s) s.threads steps o.emission o.after legal (settled.only o i)).0
+          (sends_thread m inputs threads steps o.emission o.after legal (only_sent o i)).0
 
       some : 1 ≤ went o.emission.thread o.emission.input steps
       some =
-          let a = among_sent o w.released i in
+          let a = among_sent o released i in
           let b = same_times o.emission.thread o.emission.input in omega (arith, a, b)
 
       by : (j : ℕ) → o.emission.input ≡ j → (b : Bool)
-          → nat_lt (length (all_inputs s o.emission.thread)) o.emission.input ≡ b
-          → (k : ℕ) × (k < length (all_inputs s o.emission.thread)) × (o.emission.input ≡ k + 1)
+          → nat_lt (length (inputs o.emission.thread)) o.emission.input ≡ b
+          → (k : ℕ) × (k < length (inputs o.emission.thread)) × (o.emission.input ≡ k + 1)
       by zero is b test =
           let none : went o.emission.thread o.emission.input steps ≡ 0 =
           ap (λ (j : ℕ). went o.emission.thread j steps) is ∙ (stood o.emission.thread low).0 in
           let a = some in absurd (omega (arith, a, none))
       by (suc k) is true test =
-          let high : length (all_inputs s o.emission.thread) < o.emission.input = grind (arith, nat_tests) in
+          let high : length (inputs o.emission.thread) < o.emission.input = grind (arith, nat_tests) in
           let none = (stood o.emission.thread low).2 o.emission.input high in
           let a = some in absurd (omega (arith, a, none))
       by (suc k) is false test =
-          let high : o.emission.input ≤ length (all_inputs s o.emission.thread) = grind (arith, nat_tests) in
+          let high : o.emission.input ≤ length (inputs o.emission.thread) = grind (arith, nat_tests) in
           (k, omega (arith, high, is), omega (arith, is))
 
-  total : (t : ℕ) → t < s.threads → outputs_in t w.released + drops_of t steps ≡ length (all_inputs s t)
+  total : (t : ℕ) → t < threads → outputs_in t released + drops_of t steps ≡ length (inputs t)
   total t low = ap (λ (n : ℕ). n + drops_of t steps) (same_outputs t) ∙ (stood t low).3
 
-  pub left_or_counted : LeftOrCounted s w steps
+  pub left_or_counted : LeftOrCounted threads inputs released steps
   left_or_counted = record { each = each; only = only; total = total }
+
+-- A settling comes to such a world.
+pub settled_left : {V : Type 0} (s : Setting V) (w : World V) (steps : List (Step V))
+    → ((run : List (Step V)) → IsHistory s.meaning (all_inputs s) s.threads run → (t : ℕ)
+    → (thread_after run t).hand ≡ None → all_went t run ≡ (thread_after run t).taken)
+    → IsHistory s.meaning (all_inputs s) s.threads steps → IsSettled s w steps
+    → LeftOrCounted s.threads (all_inputs s) w.released steps
+settled_left s w steps rests legal settled =
+    left_or_counted s.meaning (all_inputs s) s.threads w.released steps rests legal settled.taken settled.ended
+    settled.released settled.only settled.once

@@ -1,8 +1,9 @@
 -- What became of each input of each thread, of a box that counts dropped packets by touches of variable 0.
 use Rattle.std.specs.Prelude.{◌≡◌, ◌⊎◌, ℕ, ◌+◌, ◌<◌, ◌&&◌, cond, nat_eq, if◌then◌else◌, List, [], ◌∷◌, length}
+use Rattle.plain_text.specs.declared.packet.Packet.{Packet}
 use Rattle.entry_order.specs.Log.{touches}
 use Rattle.plain_machine.specs.History.{Act, Took, Did, Emitted, Ended, Step}
-use Rattle.recovery_world.specs.World.{Setting, Sent, World, all_inputs}
+use Rattle.recovery_world.specs.World.{Sent}
 use Rattle.recovery_world.specs.Events.{IsAmong}
 use Rattle.settled_boxes.specs.EachOnce.{times_sent}
 
@@ -33,13 +34,14 @@ outputs_in t (o ∷ sent) = cond (nat_eq o.emission.thread t) (outputs_in t sent
 abbrev pub IsEither : ℕ → ℕ → Type 0
 IsEither left counted = ((left ≡ 1) × (counted ≡ 0)) ⊎ ((left ≡ 0) × (counted ≡ 1))
 
--- What left the world, and what its run counted, are all inputs of the capture.
-pub record LeftOrCounted {V : Type 0} (s : Setting V) (w : World V) (steps : List (Step V)) : Type 0 where
+-- What was released, and what these steps counted, are all inputs of all threads.
+pub record LeftOrCounted {V : Type 0} (threads : ℕ) (inputs : ℕ → List Packet) (released : List Sent)
+    (steps : List (Step V)) : Type 0 where
   -- each input of each thread was released exactly once, or was counted exactly once as dropped, and not both
-  pub each : (t k : ℕ) → t < s.threads → k < length (all_inputs s t)
-      → IsEither (times_sent t (k + 1) w.released) (drops_with t (k + 1) steps)
+  pub each : (t k : ℕ) → t < threads → k < length (inputs t)
+      → IsEither (times_sent t (k + 1) released) (drops_with t (k + 1) steps)
   -- nothing else was released
-  pub only : (o : Sent) → IsAmong o w.released
-      → (k : ℕ) × (k < length (all_inputs s o.emission.thread)) × (o.emission.input ≡ k + 1)
+  pub only : (o : Sent) → IsAmong o released
+      → (k : ℕ) × (k < length (inputs o.emission.thread)) × (o.emission.input ≡ k + 1)
   -- so the packets that were released of a thread, and those that it counted as dropped, are all its inputs
-  pub total : (t : ℕ) → t < s.threads → outputs_in t w.released + drops_of t steps ≡ length (all_inputs s t)
+  pub total : (t : ℕ) → t < threads → outputs_in t released + drops_of t steps ≡ length (inputs t)

@@ -1,7 +1,7 @@
 //! The laws of the boxes in all worlds. Each is proved, and does nothing: a caller has it by the
 //! call.
 ghost use Rattle.std.specs.Prelude.{◌≡◌, ℕ, ◌+◌, ◌%◌, ◌^◌, ◌<◌, ◌≤◌, All, max, sum, List, []};
-ghost use Rattle.std.specs.Prelude.{◌∷◌, ◌++◌, length, Some};
+ghost use Rattle.std.specs.Prelude.{◌∷◌, ◌++◌, length, true, Some};
 ghost use Rattle.plain_text.specs.Octets.{IsOfBytes};
 ghost use Rattle.plain_text.specs.declared.packet.Packet.{Packet};
 ghost use Rattle.plain_machine.specs.declared.plain_move.PlainMove.{PlainMove};
@@ -9,10 +9,12 @@ ghost use Rattle.plain_machine.specs.History.{Step, thread_after, value_after, I
 ghost use Rattle.plain_machine.specs.Agree.{IsEarlier, SendsAfter};
 ghost use Rattle.tagged_box.specs.Tags.{steps_behind};
 ghost use Rattle.recovery_world.specs.declared.event.Event.{Event};
-ghost use Rattle.recovery_world.specs.declared.event.Event.TheVariants.{Settle};
-ghost use Rattle.recovery_world.specs.World.{Setting, Sent, World, inputs_fed};
+ghost use Rattle.recovery_world.specs.declared.event.Event.TheVariants.{Settle, Flow};
+ghost use Rattle.recovery_world.specs.declared.event.Outcome.{Outcome};
+ghost use Rattle.recovery_world.specs.World.{Setting, Sent, World, inputs_fed, all_inputs};
 ghost use Rattle.recovery_world.specs.Events.{IsAmong};
 ghost use Rattle.recovery_world.specs.Finish.{IsFinish};
+ghost use Rattle.recovery_world.specs.Many.{OnAny};
 ghost use Rattle.recovery_world.specs.Files.{Leaves};
 ghost use Rattle.nat_box.specs.declared.nat.StaticPort.{StaticPort};
 ghost use Rattle.nat_box.specs.declared.value.NatValue.{NatValue};
@@ -143,18 +145,28 @@ pub fn drops_have_causes_over_crashes()
 /// A script that ends in a settling, whatever came before it: each packet of the capture was
 /// released exactly once and never counted as dropped, or was counted exactly once and not
 /// released, in the run in which the world ends. So of each thread, the packets that were released
-/// and those that it counted are all its inputs (`nat`, `balancer`). And the packets of the
+/// and those that it counted are all its inputs (`nat`, `balancer`). A flow, in each world that a
+/// script leads to and whose master is up, leaves this of all packets that came in until its end,
+/// by what the master has counted (`nat_flow`, `balancer_flow`). And the packets of the
 /// released capture, and those that the box's own counts of drops have, are all packets of the
 /// capture, modulo 2^64 (`nat_counts`, `balancer_counts`).
 pub fn settled_packets_left_or_were_counted()
     ensures nat { (n : nat.Settings) (s : Setting NatValue) (events : List Event)
         (report : List ℕ) (released : List Packet) (schedule : List PlainMove) → IsNat n s
         → (l : Leaves s (events ++ Settle ∷ []) report released schedule)
-        → LeftOrCounted s l.world l.steps }
+        → LeftOrCounted s.threads (all_inputs s) l.world.released l.steps }
     ensures balancer { (b : balancer.Settings) (s : Setting BalancerValue) (events : List Event)
         (report : List ℕ) (released : List Packet) (schedule : List PlainMove) → IsBalancer b s
         → (l : Leaves s (events ++ Settle ∷ []) report released schedule)
-        → LeftOrCounted s l.world l.steps }
+        → LeftOrCounted s.threads (all_inputs s) l.world.released l.steps }
+    ensures nat_flow { (n : nat.Settings) (s : Setting NatValue) (w new : World NatValue)
+        (count : ℕ) (to : Outcome) (freed : List Sent) → IsNat n s → IsLedTo s w → w.up ≡ true
+        → OnAny s w (Flow count) to freed new
+        → LeftOrCounted s.threads (inputs_fed s new.fed) new.released new.past }
+    ensures balancer_flow { (b : balancer.Settings) (s : Setting BalancerValue)
+        (w new : World BalancerValue) (count : ℕ) (to : Outcome) (freed : List Sent)
+        → IsBalancer b s → IsLedTo s w → w.up ≡ true → OnAny s w (Flow count) to freed new
+        → LeftOrCounted s.threads (inputs_fed s new.fed) new.released new.past }
     ensures nat_counts { (n : nat.Settings) (s : Setting NatValue) (events : List Event)
         (report : List ℕ) (released : List Packet) (schedule : List PlainMove) → IsNat n s
         → 1 ≤ s.threads → (l : Leaves s (events ++ Settle ∷ []) report released schedule)
