@@ -1,7 +1,7 @@
 -- A flow, while the master is up, leaves a world whose run ends where its past does: so what was released is what the
 -- past sent out.
-use Rattle.std.proofs.Common.{◌≡◌, ℕ, zero, suc, ◌+◌, ◌≤◌, ◌<◌, Bool, true, false, List, [], ◌∷◌, length, refl, sym, ap}
-use Rattle.std.proofs.Common.{◌∙◌, subst, inl, inr, ◌⊎◌, arith, Option, Some, None}
+use Rattle.std.proofs.Common.{◌≡◌, ℕ, zero, suc, ◌+◌, ◌≤◌, ◌<◌, true, false, List, [], ◌∷◌, length, refl, sym, ap}
+use Rattle.std.proofs.Common.{◌∙◌, subst, inl, inr, arith, Option, Some, None}
 use Rattle.std.specs.Prelude.{◌-◌, min, slice_get}
 use Rattle.plain_text.specs.declared.limit.Limit.{Limit}
 use Rattle.plain_text.specs.declared.kind.Kind.{Kind}
@@ -24,12 +24,12 @@ use Rattle.recovery_world.specs.Limits.{OnWithin}
 use Rattle.recovery_world.specs.Strategies.{Choice, Follows, Ends as NoneIs, Halts, Goes}
 use Rattle.recovery_world.specs.Many.{Message, arrival_of, arrival, Phase, Steps, Arrives, first_of, goes_on, begins}
 use Rattle.recovery_world.specs.Many.{OnAny, Single, Several, all_messages}
-use Rattle.recovery_laws.specs.Sound.{Sound, times}
+use Rattle.recovery_laws.specs.Sound.{Sound}
 use Rattle.recovery_laws.specs.Settled.{HasFlowed}
 use Rattle.recovery_laws.proofs.Finishes.{finish_there, finish_ends}
 use Rattle.recovery_laws.proofs.Replays.{no_step}
 use Rattle.recovery_laws.proofs.Rounds.{Rested, comes_to_rest}
-use Rattle.recovery_laws.proofs.Settlings.{log_keeps, out_keeps, new_sound, all_released, past_hand, past_input}
+use Rattle.recovery_laws.proofs.Settlings.{log_keeps, out_keeps, new_sound, past_hand, past_input}
 use Rattle.recovery_laws.proofs.Settlings.{new_none, flow_flows}
 use Rattle.box_worlds.specs.Outcomes.{LeftOrCounted}
 use Rattle.box_worlds.proofs.EachInput.{all_went}

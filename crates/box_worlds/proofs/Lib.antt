@@ -13,3 +13,4 @@ pub mod WholeCapture
 pub mod CaptureOutcomes
 pub mod BalancerLoads
 pub mod CausedDrops
+pub mod EachOutcome

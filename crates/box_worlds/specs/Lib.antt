@@ -3,3 +3,4 @@ pub mod Boxes
 pub mod Outcomes
 pub mod Releases
 pub mod Drops
+pub mod EachOutcome

@@ -37,6 +37,7 @@ ghost use Rattle.box_worlds.specs.Worlds.{IsLedTo, IsOfWorld};
 ghost use Rattle.box_worlds.specs.Boxes.{IsNat, IsBalancer};
 ghost use Rattle.box_worlds.specs.Outcomes.{LeftOrCounted};
 ghost use Rattle.box_worlds.specs.Drops.{DropsAreCaused, NatCause, BalancerCause};
+ghost use Rattle.box_worlds.specs.EachOutcome.{EachHasOneOutcome};
 ghost use Rattle.box_worlds.specs.Releases.{IsMadeOfInput, Translated, SentOn};
 
 /// The histories in a world are crash-free histories of the box, on the packets that were fed,
@@ -178,4 +179,20 @@ pub fn settled_packets_left_or_were_counted()
         → (l : Leaves s (events ++ Settle ∷ []) report released schedule)
         → (length released + sum (drop_counts (value_after s.meaning l.steps 0))) % 2 ^ 64
         ≡ length s.packets % 2 ^ 64 }
+{}
+
+/// A script that ends in a settling, whatever came before it, on packets of bytes: each packet of
+/// the capture was released exactly once, as the box translates it, and never counted as dropped; or
+/// it was counted exactly once, for a cause that it has, and never released.
+pub fn each_packet_has_one_outcome()
+    ensures nat { (n : nat.Settings) (s : Setting NatValue) (events : List Event)
+        (report : List ℕ) (released : List Packet) (schedule : List PlainMove) → IsNat n s
+        → All IsOfBytes s.packets
+        → (l : Leaves s (events ++ Settle ∷ []) report released schedule)
+        → EachHasOneOutcome s l.world l.steps (Translated n) (NatCause n) }
+    ensures balancer { (b : balancer.Settings) (s : Setting BalancerValue) (events : List Event)
+        (report : List ℕ) (released : List Packet) (schedule : List PlainMove) → IsBalancer b s
+        → All IsOfBytes s.packets
+        → (l : Leaves s (events ++ Settle ∷ []) report released schedule)
+        → EachHasOneOutcome s l.world l.steps (SentOn b) (BalancerCause b) }
 {}
