@@ -19,7 +19,8 @@ use Rattle.box_worlds.specs.Boxes.{IsBalancer}
 use Rattle.box_worlds.proofs.BehindTags.{history_behind, value_behind, behind_world, rest_behind}
 
 pub are_charged : (b : Settings) (s : Setting BalancerValue) (w : World BalancerValue)
-    (steps : List (Step BalancerValue)) (backend : ℕ) → IsBalancer b s → IsLedTo s w → IsOfWorld s w steps → backend < length b.backends
+    (steps : List (Step BalancerValue)) (backend : ℕ) → IsBalancer b s → IsLedTo s w → IsOfWorld s w steps
+    → backend < length b.backends
     → IsCharged b s.threads backend (value_after s.meaning steps) (thread_after (steps_behind s.tags steps))
 are_charged b s w steps backend is led of low =
     subst (λ (value : ℕ → BalancerValue).

@@ -68,7 +68,8 @@ settled_so : {V : Type 0} (m : Meaning V) (s : Setting V) (events : List Event) 
     (released : List Packet) (schedule : List PlainMove) → s.meaning ≡ tagged_meaning s.tags m
     → ((inputs : ℕ → List Packet) (steps : List (Step V)) → IsHistory m inputs s.threads steps → (t : ℕ)
     → (thread_after steps t).hand ≡ None → all_went t steps ≡ (thread_after steps t).taken)
-    → (l : Leaves s (events ++ Settle ∷ []) report released schedule) → LeftOrCounted s.threads (all_inputs s) l.world.released l.steps
+    → (l : Leaves s (events ++ Settle ∷ []) report released schedule)
+    → LeftOrCounted s.threads (all_inputs s) l.world.released l.steps
 settled_so m s events report released schedule is rests l =
     settled_left s l.world l.steps (behind_rests s m is rests (all_inputs s)) l.finish.history
     (script_settled s events report released schedule l)
@@ -109,7 +110,8 @@ nat_flow n s w new count to freed is led up on =
 
 pub nat_left_or_counted : (n : nat.Settings) (s : Setting NatValue) (events : List Event) (report : List ℕ)
     (released : List Packet) (schedule : List PlainMove) → IsNat n s
-    → (l : Leaves s (events ++ Settle ∷ []) report released schedule) → LeftOrCounted s.threads (all_inputs s) l.world.released l.steps
+    → (l : Leaves s (events ++ Settle ∷ []) report released schedule)
+    → LeftOrCounted s.threads (all_inputs s) l.world.released l.steps
 nat_left_or_counted n s events report released schedule is l =
     settled_so (nat.nat_meaning n) s events report released schedule is.1
     (λ inputs steps h t none. nat_rests n is.0 s.threads inputs steps h t none) l
@@ -238,7 +240,8 @@ module _ (b : balancer.Settings) (is : lawful_balancer.AreSettings b) (threads :
 
 pub balancer_left_or_counted : (b : balancer.Settings) (s : Setting BalancerValue) (events : List Event)
     (report : List ℕ) (released : List Packet) (schedule : List PlainMove) → IsBalancer b s
-    → (l : Leaves s (events ++ Settle ∷ []) report released schedule) → LeftOrCounted s.threads (all_inputs s) l.world.released l.steps
+    → (l : Leaves s (events ++ Settle ∷ []) report released schedule)
+    → LeftOrCounted s.threads (all_inputs s) l.world.released l.steps
 balancer_left_or_counted b s events report released schedule is l =
     settled_so (balancer.balancer_meaning b) s events report released schedule is.1
     (λ inputs steps h t none. balancer_rests b is.0 s.threads inputs steps h t none) l

@@ -178,7 +178,8 @@ module _ {V : Type 0} (s : Setting V) (w : World V) (steps : List (Step V))
           same_packet : (x : Step V) → x.thread ≡ t → (i : ℕ) (q : Packet) → i ≡ k
               → slice_get (inputs_fed s w.fed x.thread) i ≡ Some q → q ≡ p
           same_packet x thread i q is fed =
-              let a : slice_get (all_inputs s t) k ≡ Some q = subst (λ (j : ℕ). slice_get (all_inputs s t) j ≡ Some q) is
+              let a : slice_get (all_inputs s t) k ≡ Some q =
+              subst (λ (j : ℕ). slice_get (all_inputs s t) j ≡ Some q) is
               (subst (λ (u : ℕ). slice_get (all_inputs s u) i ≡ Some q) thread (fed_found s w.fed x.thread i q fed)) in
               let b : Some q ≡ Some p = sym a ∙ given in cc
 

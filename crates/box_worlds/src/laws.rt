@@ -182,8 +182,8 @@ pub fn settled_packets_left_or_were_counted()
 {}
 
 /// A script that ends in a settling, whatever came before it, on packets of bytes: each packet of
-/// the capture was released exactly once, as the box translates it, and never counted as dropped; or
-/// it was counted exactly once, for a cause that it has, and never released.
+/// the capture was released exactly once, as the box translates it, and never counted as dropped;
+/// or it was counted exactly once, for a cause that it has, and never released.
 pub fn each_packet_has_one_outcome()
     ensures nat { (n : nat.Settings) (s : Setting NatValue) (events : List Event)
         (report : List ℕ) (released : List Packet) (schedule : List PlainMove) → IsNat n s
