@@ -1,0 +1,16 @@
+pub mod WorldHistories
+pub mod BehindTags
+pub mod NatTables
+pub mod ThreadMoves
+pub mod SameOutputs
+pub mod SentSteps
+pub mod EachInput
+pub mod SettledInputs
+pub mod FlowedInputs
+pub mod BoxInputs
+pub mod Translations
+pub mod WholeCapture
+pub mod CaptureOutcomes
+pub mod BalancerLoads
+pub mod CausedDrops
+pub mod EachOutcome
