@@ -304,22 +304,22 @@ quoted_some frame quotes =
 
 module _ (frame : List ℕ) (error : IcmpError) (w : Task) (bytes : AreBytes frame) (parts : Stands (length frame) error)
     (targets : Targets error w) (has : has_transport_checksum error ≡ true) (some : 0 < protocol_byte frame error) where
-  new : List ℕ
+  abbrev new : List ℕ
   new = done frame error w
 
-  checksum : ℕ
+  abbrev checksum : ℕ
   checksum = word_at frame (transport_checksum error)
 
-  old_address : ℕ
+  abbrev old_address : ℕ
   old_address = long_at frame w.quoted
 
-  old_port : ℕ
+  abbrev old_port : ℕ
   old_port = word_at frame w.port_place
 
-  first : ℕ
+  abbrev first : ℕ
   first = adjusted_32 checksum old_address w.address
 
-  second : ℕ
+  abbrev second : ℕ
   second = adjusted_16 first old_port w.port
 
   number_kept : protocol_byte new error ≡ protocol_byte frame error
