@@ -16,13 +16,13 @@ use Rattle.icmp_errors.specs.ErrorFields.{quoted_at}
 use Rattle.icmp_errors.specs.ErrorView.{viewed_error}
 use Rattle.entry_order.specs.declared.what.What.{What}
 use Rattle.entry_order.specs.declared.what.What.TheVariants.{Access, Read, Clock, Draw}
-use Rattle.plain_machine.specs.Machine.{Hand, Thread}
+use Rattle.plain_machine.specs.Machine.{Hand}
 use Rattle.plain_machine.specs.History.{Act, Took, Did, Emitted, Ended, Step, thread_after, value_after, IsHistory}
 use Rattle.nat_tables.specs.declared.entries.Endpoint.{Endpoint}
 use Rattle.nat_tables.specs.declared.slot.Slot.{Slot}
-use Rattle.flow_boxes.specs.Flows.{source_of, HaveBytes}
+use Rattle.flow_boxes.specs.Flows.{HaveBytes}
 use Rattle.flow_boxes.specs.Drops.{reason_of}
-use Rattle.flow_boxes.proofs.Fitting.{IsWhole, long_fits}
+use Rattle.flow_boxes.proofs.Fitting.{long_fits}
 use Rattle.flow_boxes.proofs.HeldInputs.{IsHeld, run_holds}
 use Rattle.nat_box.specs.declared.place.Class.{Class}
 use Rattle.nat_box.specs.declared.place.Class.TheVariants.{Outbound, Hairpin, Inbound, OutboundError}
@@ -36,12 +36,12 @@ use Rattle.nat_box.specs.Lawful.{AreSettings}
 use Rattle.nat_box.specs.Sentences.{Has, mappings_in}
 use Rattle.nat_box.specs.Emissions.{Trail, trail_by, trail_by_what, trail_of, Lived, IsTranslated, IsTranslationOf}
 use Rattle.nat_box.proofs.Emissions.{emissions_translate}
-use Rattle.nat_box.proofs.SeenAs.{error_there, error_read, flow_whole, class_is_seen}
+use Rattle.nat_box.proofs.SeenAs.{error_there, error_read, flow_whole}
 use Rattle.nat_runs.specs.Classes.{IsFromInside, GoesInside}
 use Rattle.nat_runs.specs.Met.{Met, met_of}
 use Rattle.nat_runs.specs.Causes.{IsFlow, Cause}
 use Rattle.nat_runs.specs.Refreshing.{ComesFrom}
-use Rattle.nat_runs.specs.Networks.{bit, IsOfNetwork, GoesOut, GoesRound, ComesIn, ErrorGoesOut, ErrorComesIn, HasClass}
+use Rattle.nat_runs.specs.Networks.{bit, IsOfNetwork, GoesOut, GoesRound, ComesIn, ErrorGoesOut, ErrorComesIn}
 use Rattle.nat_runs.specs.Networks.{ErrorHasClass, IsErrorIn, NeedsOwnMapping, NeedsMapping, IsOfNoClass, IsNeither, MayReach}
 use Rattle.nat_runs.specs.Networks.{IsSentByClass, SentByClass, IsCountedByClass, CountedByClass, MappingsAreInside}
 use Rattle.nat_runs.proofs.TableEntries.{lives_is}

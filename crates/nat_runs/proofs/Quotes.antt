@@ -1,11 +1,11 @@
 -- What an error of ICMP keeps of the packet that it quotes.
-use Rattle.std.proofs.Common.{◌≡◌, ◌≢◌, ◌⊎◌, ℕ, ◌+◌, ◌-◌, ◌*◌, ◌/◌, ◌%◌, ◌^◌, ◌<◌, ◌≤◌, ◌==◌, Bool, true, false, ◌&&◌, ◌||◌}
-use Rattle.std.proofs.Common.{nat_le, if◌then◌else◌, List, [], ◌++◌, length, get_or, take, drop, sum, inl, inr, Some, refl}
+use Rattle.std.proofs.Common.{◌≡◌, ◌≢◌, ◌⊎◌, ℕ, ◌+◌, ◌-◌, ◌*◌, ◌/◌, ◌%◌, ◌<◌, ◌≤◌, ◌==◌, Bool, true, false, ◌&&◌, ◌||◌}
+use Rattle.std.proofs.Common.{nat_le, if◌then◌else◌, List, ◌++◌, length, get_or, take, drop, sum, inl, inr, Some, refl}
 use Rattle.std.proofs.Common.{sym, ap, ◌∙◌, subst, arith}
 use Rattle.std.proofs.lemmas.List.Sums.{sum_by_from}
 use Rattle.std.proofs.lemmas.Bool.Decides.{nat_tests}
 use Rattle.inet_checksum.specs.OnesComplement.{words, AreAsRight, adjusted_16, adjusted_32}
-use Rattle.inet_checksum.proofs.AdjustedSums.{are_as_right, adjusted_16-residue, adjusted_16-le, adjusted_32-le}
+use Rattle.inet_checksum.proofs.AdjustedSums.{are_as_right, adjusted_16-residue, adjusted_32-le}
 use Rattle.inet_checksum.proofs.AdjustedSums.{adjusted_32-residue}
 use Rattle.packet_headers.specs.Fields.{AreBytes, word_at, long_at}
 use Rattle.packet_headers.specs.View.{is_tcp, is_udp}
@@ -17,18 +17,17 @@ use Rattle.packet_headers.specs.Fields.{put_word}
 use Rattle.icmp_errors.specs.declared.error.IcmpError.{IcmpError}
 use Rattle.icmp_errors.specs.ErrorFields.{quoted_version, quoted_ihl, quoted_offset, quoted_protocol, quoted_end}
 use Rattle.icmp_errors.specs.ErrorFields.{error_end}
-use Rattle.icmp_errors.specs.ErrorView.{quotes_flow, error_of, viewed_error}
+use Rattle.icmp_errors.specs.ErrorView.{quotes_flow, viewed_error}
 use Rattle.icmp_errors.specs.ErrorRewriting.{exchanged_word, exchanged_long, icmp_checksum, quoted_checksum}
 use Rattle.icmp_errors.specs.ErrorRewriting.{source_place, dest_place, transport_checksum, has_transport_checksum}
 use Rattle.icmp_errors.specs.ErrorRewriting.{transport_sum, header_sum, with_quoted_address}
-use Rattle.icmp_errors.specs.ErrorRewriting.{rewritten_fields, IsOutside}
-use Rattle.icmp_errors.proofs.Exchanges.{length-exchanged, Beside, byte_beside, exchanged_there}
-use Rattle.icmp_errors.proofs.Bytes.{BesideMessage, long_leaves, message_leaves, word_same}
-use Rattle.icmp_errors.proofs.Steps.{Stands, stands_along, ChecksumStands, checksum_stands, checksum_quoted}
+use Rattle.icmp_errors.proofs.Exchanges.{length-exchanged, byte_beside, exchanged_there}
+use Rattle.icmp_errors.proofs.Bytes.{long_leaves, message_leaves, word_same}
+use Rattle.icmp_errors.proofs.Steps.{Stands, ChecksumStands, checksum_stands, checksum_quoted}
 use Rattle.icmp_errors.proofs.Known.{Known, known, stands, seen_is, both}
 use Rattle.icmp_errors.proofs.Whole.{Task, source_task, dest_task, Targets, source_targets, dest_targets, done}
 use Rattle.icmp_errors.proofs.Whole.{quoted_there, quoted_other}
-use Rattle.nat_runs.specs.Quotes.{quoted_words, checksum_there, KeepsQuoted, KeepsNone, KeepsQuote, EachKeepsQuote}
+use Rattle.nat_runs.specs.Quotes.{quoted_words, checksum_there, KeepsQuoted, KeepsNone}
 use Rattle.nat_runs.specs.Quotes.{QuotedSourceKeeps, QuotedDestKeeps}
 
 -- One exchanged word and the sum of a piece behind its checksum, whatever follows the piece
