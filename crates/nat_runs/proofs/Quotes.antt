@@ -282,6 +282,15 @@ written_mod : (number old adjusted : ℕ) → (is_tcp number ≡ false → old �
     → written_checksum number old adjusted % 65535 ≡ adjusted % 65535
 written_mod number old adjusted has_checksum = grind (arith, nat_tests)
 
+not_tcp : (number : ℕ) → number ≢ 6 → is_tcp number ≡ false
+not_tcp number udp = grind (arith, nat_tests)
+
+is_not_tcp : (number : ℕ) → is_tcp number ≡ false → number ≢ 6
+is_not_tcp number udp = grind (arith, nat_tests)
+
+at_most : (a b : ℕ) → a ≤ b → nat_le a b ≡ true
+at_most a b order = grind (arith, nat_tests)
+
 -- what is written where there was none, and where there was one
 written_none : (number old adjusted : ℕ) → is_tcp number ≡ false → old ≡ 0 → written_checksum number old adjusted ≡ 0
 written_none number old adjusted udp none = grind (arith, nat_tests)
@@ -350,8 +359,8 @@ module _ (frame : List ℕ) (error : IcmpError) (w : Task) (bytes : AreBytes fra
 
   keeps_none : KeepsNone frame new error
   keeps_none udp = (
-    λ none. written_some error.protocol checksum second udp (sym now_is ∙ none),
-    λ none. now_is ∙ written_none error.protocol checksum second udp none,
+    λ none. written_some error.protocol checksum second (not_tcp error.protocol udp) (sym now_is ∙ none),
+    λ none. now_is ∙ written_none error.protocol checksum second (not_tcp error.protocol udp) none,
   )
 
   weighs : (more : List ℕ)
@@ -375,7 +384,7 @@ module _ (frame : List ℕ) (error : IcmpError) (w : Task) (bytes : AreBytes fra
       balances (addresses new error) (addresses frame error) (weight new error.transport_at error.end more)
       (weight frame error.transport_at error.end more) checksum old_address w.address old_port w.port
       (written_checksum error.protocol checksum second) first second balance (weighs more) first_balance second_balance
-      (written_mod error.protocol checksum second has_checksum) in
+      (written_mod error.protocol checksum second (λ udp. has_checksum (is_not_tcp error.protocol udp))) in
       right_with (addresses new error) (addresses frame error) (protocol_byte new error) (protocol_byte frame error) size
       (weight new error.transport_at error.end more) (weight frame error.transport_at error.end more)
       (quoted_words new error size more) (quoted_words frame error size more) (quoted_total new error size more)
@@ -420,7 +429,8 @@ seen_as frame original error seen =
     subst (IsSeen frame) is.1 (record { parts = stands frame original k; number = quoted_some frame k.quotes })
 
 pub quoted_source_keeps : QuotedSourceKeeps
-quoted_source_keeps frame original error address port bytes seen has small narrow =
+quoted_source_keeps frame original error address port bytes seen goes small narrow =
+    let has = at_most (transport_checksum error + 2) error.end goes in
     let is = seen_as frame original error seen in
     let w : Task = source_task error address port in
     let targets = source_targets error address port small narrow in
@@ -433,7 +443,8 @@ quoted_source_keeps frame original error address port bytes seen has small narro
     )
 
 pub quoted_dest_keeps : QuotedDestKeeps
-quoted_dest_keeps frame original error address port bytes seen has small narrow =
+quoted_dest_keeps frame original error address port bytes seen goes small narrow =
+    let has = at_most (transport_checksum error + 2) error.end goes in
     let is = seen_as frame original error seen in
     let w : Task = dest_task error address port in
     let targets = dest_targets error address port small narrow in
