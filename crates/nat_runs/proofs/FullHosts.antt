@@ -10,13 +10,10 @@ use Rattle.entry_order.specs.declared.what.What.{What}
 use Rattle.entry_order.specs.declared.what.What.TheVariants.{Access as Accessed, Read as WasRead, Clock as Heard}
 use Rattle.entry_order.specs.declared.what.What.TheVariants.{Draw as Drew}
 use Rattle.entry_order.proofs.Order.{is_or}
-use Rattle.packet_headers.specs.Fields.{AreBytes}
 use Rattle.packet_headers.specs.declared.flow.Flow.{Flow}
 use Rattle.packet_headers.specs.declared.flow.NotFlow.{NotFlow}
-use Rattle.packet_headers.specs.View.{viewed}
-use Rattle.plain_machine.specs.declared.local.Move.TheVariants.{Access}
-use Rattle.plain_machine.specs.Machine.{Hand, Thread, Effect, Touches, Moves, held_move}
-use Rattle.plain_machine.specs.History.{Act, Did, Step, act_of, entry_of, log_of, left_by, thread_after, value_after}
+use Rattle.plain_machine.specs.Machine.{Hand, Thread, Effect, Moves, held_move}
+use Rattle.plain_machine.specs.History.{Act, Did, Step, act_of, entry_of, log_of, thread_after, value_after}
 use Rattle.plain_machine.specs.History.{IsHistory}
 use Rattle.plain_machine.proofs.Histories.{not_eq, is_eq}
 use Rattle.plain_machine.proofs.Bounds.{values_fit}
@@ -26,10 +23,10 @@ use Rattle.nat_tables.specs.declared.entries.Find.{Find}
 use Rattle.nat_tables.specs.declared.entries.Find.TheVariants.{Live, Absent}
 use Rattle.nat_tables.specs.declared.entries.Bind.{Bind}
 use Rattle.nat_tables.specs.declared.entries.Bind.TheVariants.{Bound, Other}
-use Rattle.nat_tables.specs.Ports.{PoolPorts, reserve}
-use Rattle.nat_tables.specs.Forwards.{Forwards, is_idle, port_of, slot_of, first_idle, found_there, found, mark, find}
+use Rattle.nat_tables.specs.Ports.{reserve}
+use Rattle.nat_tables.specs.Forwards.{Forwards, is_idle, slot_of, first_idle, found_there, found, mark, find}
 use Rattle.nat_tables.specs.Forwards.{lives, without, find_or_bind}
-use Rattle.nat_tables.specs.Hosts.{is_of_host, count_of, is_full, first_idle_of, given_up, found_within, bind_within}
+use Rattle.nat_tables.specs.Hosts.{count_of, is_full, first_idle_of, given_up, found_within, bind_within}
 use Rattle.nat_tables.specs.Reverses.{endpoint_of}
 use Rattle.nat_tables.proofs.IdleLemmas.{unmarked}
 use Rattle.nat_box.specs.declared.place.Place.{Place}
@@ -42,11 +39,10 @@ use Rattle.nat_box.specs.declared.place.Class.TheVariants.{Outbound, Hairpin, In
 use Rattle.nat_box.specs.declared.place.Noted.{Noted}
 use Rattle.nat_box.specs.declared.place.Goes.{Goes}
 use Rattle.nat_box.specs.declared.value.NatValue.{NatValue}
-use Rattle.nat_box.specs.declared.value.NatValue.TheVariants.{Dropped, Free, Mapped, Taken}
+use Rattle.nat_box.specs.declared.value.NatValue.TheVariants.{Free, Mapped}
 use Rattle.flow_boxes.specs.Flows.{source_of}
-use Rattle.flow_boxes.specs.Drops.{reason_of}
 use Rattle.flow_boxes.proofs.HeldInputs.{IsHeld, run_holds}
-use Rattle.nat_box.specs.Places.{place_numbered, noted, local_of, dest_key}
+use Rattle.nat_box.specs.Places.{place_numbered, noted, dest_key}
 use Rattle.nat_box.specs.Nat.{Settings, goes, dropped, over_limit, forward_table, class_seen, flow_seen, begun_by}
 use Rattle.nat_box.specs.Nat.{mapped}
 use Rattle.nat_box.specs.Nat.{after_find, after_reserve, after_bind, after_find_within, after_bind_within, after_lost}
@@ -55,16 +51,15 @@ use Rattle.nat_box.specs.Nat.{looked}
 use Rattle.nat_box.specs.Nat.{after_time, told, local_at, begun, seen_by, nat_meaning, Fits}
 use Rattle.nat_box.specs.Noting.{place_again, IsNoted, is_noted, noted_again}
 use Rattle.nat_box.specs.Lawful.{AreSettings, var_of, touches_it, nat_lawful}
-use Rattle.nat_box.specs.Sentences.{Has, mappings_in}
+use Rattle.nat_box.specs.Sentences.{mappings_in}
 use Rattle.nat_box.proofs.Noting.{touched_noted}
 use Rattle.nat_box.proofs.Emissions.{worded}
-use Rattle.nat_box.proofs.Making.{goes_on, comes_to}
+use Rattle.nat_box.proofs.Making.{goes_on}
 use Rattle.nat_runs.specs.Met.{Met, nothing_met, met_by_touch, met_by_read, met_by, met_of}
-use Rattle.nat_runs.specs.Idle.{IsIdle}
-use Rattle.nat_runs.specs.FullHosts.{HasRoom, HadRoom, DrawsHadRoom, drawn_by, has_drawn, ChangesNothing, OfThread}
+use Rattle.nat_runs.specs.FullHosts.{HasRoom, DrawsHadRoom, drawn_by, has_drawn, ChangesNothing}
 use Rattle.nat_runs.specs.FullHosts.{HasChangedNothing}
 use Rattle.nat_runs.proofs.TableEntries.{slot_in, idle_is}
-use Rattle.nat_runs.proofs.Within.{by_bind, idle_of_host}
+use Rattle.nat_runs.proofs.Within.{idle_of_host}
 use Rattle.nat_runs.proofs.ThreadMoves.{TouchKind, finds, unbinds_freed, gives_freed, reserves, binds, finds_or_binds}
 use Rattle.nat_runs.proofs.ThreadMoves.{unbinds_lost, gives_lost, counts, LookKind, finds_endpoint, asks, finds_port}
 use Rattle.nat_runs.proofs.ThreadMoves.{touch_kind, look_kind, at_clock, at_draw, at, touched_below, read_below}

@@ -1,5 +1,5 @@
 -- Idle mappings give way.
-use Rattle.std.proofs.Common.{◌≡◌, ◌≢◌, ℕ, ◌+◌, ◌*◌, ◌-◌, ◌<◌, ◌≤◌, max, Bool, true, false, List, [], ◌∷◌, ◌++◌, refl}
+use Rattle.std.proofs.Common.{◌≡◌, ℕ, ◌+◌, ◌*◌, ◌-◌, ◌<◌, ◌≤◌, max, Bool, true, false, List, [], ◌∷◌, ◌++◌, refl}
 use Rattle.std.proofs.Common.{sym, ap, ◌∙◌, subst, ◌⊎◌, inl, inr, arith, Option, Some, None}
 use Rattle.std.specs.Prelude.{cond, nat_eq, ◌&&◌, ◌==◌, if◌then◌else◌, Ok}
 use Rattle.std.proofs.lemmas.Bool.{cases_lt}
@@ -10,8 +10,6 @@ use Rattle.entry_order.specs.declared.what.What.{What}
 use Rattle.entry_order.specs.declared.what.What.TheVariants.{Access as Accessed, Read as WasRead, Clock as Heard}
 use Rattle.entry_order.specs.declared.what.What.TheVariants.{Draw as Drew}
 use Rattle.entry_order.proofs.Order.{touch_only}
-use Rattle.packet_headers.specs.Fields.{AreBytes}
-use Rattle.packet_headers.specs.declared.flow.Flow.{Flow}
 use Rattle.packet_headers.specs.View.{viewed}
 use Rattle.plain_machine.specs.declared.local.Move.TheVariants.{Access}
 use Rattle.plain_machine.specs.Machine.{Hand, Thread, Effect, Touches, Moves, held_move}
@@ -20,13 +18,12 @@ use Rattle.plain_machine.proofs.Histories.{is_eq}
 use Rattle.plain_machine.proofs.Bounds.{values_fit}
 use Rattle.nat_tables.specs.declared.entries.Endpoint.{Endpoint}
 use Rattle.nat_tables.specs.declared.slot.Slot.{Slot}
-use Rattle.nat_tables.specs.declared.phase.Phase.TheVariants.{Plain, Kept}
-use Rattle.nat_tables.specs.declared.entries.Find.{Find}
+use Rattle.nat_tables.specs.declared.phase.Phase.TheVariants.{Plain}
 use Rattle.nat_tables.specs.declared.entries.Bind.{Bind}
 use Rattle.nat_tables.specs.Keys.{same_endpoint}
 use Rattle.nat_tables.specs.Forwards.{Forwards, is_idle, slot_of, first_idle, without, without_idle, refresh, refreshed}
 use Rattle.nat_tables.specs.Forwards.{found_there, found, find, bound, find_or_bind, Misses, AreMappings}
-use Rattle.nat_tables.specs.Hosts.{is_of_host, count_of, is_full, first_idle_of, given_up, found_within, find_within}
+use Rattle.nat_tables.specs.Hosts.{is_of_host, is_full, first_idle_of, given_up, found_within, find_within}
 use Rattle.nat_tables.specs.Hosts.{bind_within}
 use Rattle.nat_tables.proofs.Counting.{same_is}
 use Rattle.flow_boxes.specs.Flows.{source_of}
@@ -35,7 +32,7 @@ use Rattle.flow_boxes.proofs.HeldInputs.{IsHeld, run_holds}
 use Rattle.nat_box.specs.declared.place.Place.{Place}
 use Rattle.nat_box.specs.declared.place.Noted.{Noted}
 use Rattle.nat_box.specs.declared.value.NatValue.{NatValue}
-use Rattle.nat_box.specs.declared.value.NatValue.TheVariants.{Dropped, Free, Mapped, Taken}
+use Rattle.nat_box.specs.declared.value.NatValue.TheVariants.{Mapped}
 use Rattle.nat_box.specs.Places.{noted}
 use Rattle.nat_box.specs.Nat.{Settings, flow_seen, touched_by, followed_by, followed, nat_meaning, MayMap, Fits}
 use Rattle.nat_box.specs.Lawful.{AreSettings, nat_lawful}

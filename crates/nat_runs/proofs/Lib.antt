@@ -20,3 +20,5 @@ pub mod StaticSources
 pub mod Errors
 pub mod Limits
 pub mod Phasing
+pub mod Networks
+pub mod Quotes

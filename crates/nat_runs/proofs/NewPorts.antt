@@ -13,7 +13,6 @@ use Rattle.plain_machine.proofs.Histories.{not_eq, is_eq}
 use Rattle.plain_machine.proofs.Bounds.{values_fit}
 use Rattle.nat_tables.specs.declared.entries.Endpoint.{Endpoint}
 use Rattle.nat_tables.specs.declared.slot.Slot.{Slot}
-use Rattle.nat_tables.specs.declared.phase.Phase.TheVariants.{Plain}
 use Rattle.nat_tables.specs.declared.entries.Find.{Find}
 use Rattle.nat_tables.specs.declared.entries.Find.TheVariants.{Live, Absent}
 use Rattle.nat_tables.specs.declared.entries.Bind.{Bind}
@@ -27,16 +26,15 @@ use Rattle.nat_tables.specs.Hosts.{is_full, find_within, bind_within}
 use Rattle.nat_tables.specs.Reverses.{endpoint_of}
 use Rattle.nat_tables.proofs.Parity.{keeps_parity}
 use Rattle.nat_box.specs.declared.place.Place.{Place}
-use Rattle.nat_box.specs.declared.place.Place.TheVariants.{HearsTime, FindsMapping, UnbindsFreed, GivesBackFreed}
+use Rattle.nat_box.specs.declared.place.Place.TheVariants.{HearsTime}
 use Rattle.nat_box.specs.declared.place.Place.TheVariants.{DrawsWord, ReservesPort, BindsPort, FindsOrBinds}
-use Rattle.nat_box.specs.declared.place.Place.TheVariants.{UnbindsLost, GivesBackLost, FindsEndpoint, AsksIfLives}
-use Rattle.nat_box.specs.declared.place.Place.TheVariants.{CountsDrop, SendsOut, Ends, FindsPort}
+use Rattle.nat_box.specs.declared.place.Place.TheVariants.{Ends}
 use Rattle.nat_box.specs.declared.place.Class.{Class}
 use Rattle.nat_box.specs.declared.place.Class.TheVariants.{Outbound, Hairpin, Inbound, OutboundError}
 use Rattle.nat_box.specs.declared.place.Noted.{Noted}
 use Rattle.nat_box.specs.declared.place.Goes.{Goes}
 use Rattle.nat_box.specs.declared.value.NatValue.{NatValue}
-use Rattle.nat_box.specs.declared.value.NatValue.TheVariants.{Dropped, Free, Mapped, Taken}
+use Rattle.nat_box.specs.declared.value.NatValue.TheVariants.{Free, Mapped}
 use Rattle.nat_box.specs.Places.{place_numbered, noted, dest_key}
 use Rattle.nat_box.specs.Nat.{Settings, goes, dropped, over_limit, class_seen, flow_seen, begun_by, mapped, after_find}
 use Rattle.nat_box.specs.Nat.{after_reserve, after_bind, after_find_within, after_bind_within, after_lost, touched_by}

@@ -15,3 +15,5 @@ pub mod Refreshing
 pub mod StaticPorts
 pub mod Errors
 pub mod Limits
+pub mod Networks
+pub mod Quotes

@@ -1,5 +1,5 @@
 -- A new mapping has the parity of its inside port while a port of this parity is free (RFC 4787, REQ-4).
-use Rattle.std.specs.Prelude.{◌≡◌, ℕ, ◌+◌, ◌*◌, ◌%◌, ◌<◌, ◌≤◌, List, ◌∷◌, Option, Some}
+use Rattle.std.specs.Prelude.{◌≡◌, ℕ, ◌+◌, ◌*◌, ◌%◌, ◌<◌, ◌≤◌, List, ◌∷◌, Some}
 use Rattle.plain_text.specs.declared.packet.Packet.{Packet}
 use Rattle.plain_machine.specs.History.{Step, value_after, IsHistory}
 use Rattle.nat_tables.specs.declared.entries.Endpoint.{Endpoint}

@@ -16,6 +16,8 @@ ghost use Rattle.nat_runs.specs.StaticPorts.{MovesAreTheSame, NoneStartsWithoutT
 ghost use Rattle.nat_runs.specs.Errors.{BeginsByFlow, SendsByFlow, NoneFindsPort};
 ghost use Rattle.nat_runs.specs.Errors.{OtherMovesAreTheSame};
 ghost use Rattle.nat_runs.specs.FullHosts.{DrawsHadRoom};
+ghost use Rattle.nat_runs.specs.Networks.{SentByClass, CountedByClass, MappingsAreInside};
+ghost use Rattle.nat_runs.specs.Quotes.{QuotedSourceKeeps, QuotedDestKeeps};
 ghost use Rattle.nat_runs.specs.Limits.{HostsKeepWithin, TouchesWithoutLimit, TablesWithoutLimit};
 
 /// After each move of each run, whatever its threads, its inputs and the order of its moves: each packet that a thread
@@ -142,4 +144,28 @@ pub fn errors_go_through_by_the_line()
     ensures sends { SendsByFlow }
     ensures none { NoneFindsPort }
     ensures moves { OtherMovesAreTheSame }
+{}
+
+/// What is sent out, what is dropped and who has a mapping, by the bits of addresses alone and not by the box's own test
+/// of one. An address is inside where its leading bits are those of the inside network. Each packet that is sent out is
+/// of one of five classes and translated as its class says (`sent`): it goes from inside to an address that is neither
+/// inside nor the outside address; or from inside to the outside address, and back inside; or from elsewhere to the
+/// outside address, and inside; or, where errors of ICMP go through, it is one from inside about a packet that went
+/// inside (RFC 5508, REQ-5), or one from elsewhere to the outside address about a packet that came from there (REQ-4).
+/// What goes inside goes to an inside address or to the endpoint of a static port. A packet of a class is never counted
+/// as a stray, and one of no class as nothing else (`counted`). Each mapping is of an inside address or of a static port
+/// (`mappings`). The inside network is any of 32 bits.
+pub fn classes_are_by_the_networks()
+    ensures sent { SentByClass }
+    ensures counted { CountedByClass }
+    ensures mappings { MappingsAreInside }
+{}
+
+/// An error of ICMP keeps the checksum of the TCP or UDP packet that it quotes, where it quotes so much, as right or as
+/// wrong as it was: over the quoted addresses, what is quoted of that packet, and any bytes of it that are not. A UDP
+/// checksum of 0, which says that there is none, stays 0, and no other becomes 0. So it is of errors that come in
+/// (`source`; RFC 5508, REQ-4) and of those that go out (`dest`; REQ-5).
+pub fn errors_keep_what_they_quote()
+    ensures source { QuotedSourceKeeps }
+    ensures dest { QuotedDestKeeps }
 {}
