@@ -68,7 +68,7 @@ takes_none place places (word ∷ words) cause e = by (value_at (grammar_place p
         ∙ ap Some same
     by (Some m) is e = absurd (cc)
 
--- and the places behind it
+-- and the places after it
 form_behind : (place : LinePlace) (places : List LinePlace) (words rest : Words) (n : ℕ) → TakesOne place words rest n
     → form_fault (map grammar_place (place ∷ places)) words ≡ form_fault (map grammar_place places) rest
 form_behind place places words rest n takes =

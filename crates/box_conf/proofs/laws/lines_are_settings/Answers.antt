@@ -1,0 +1,8 @@
+use Rattle.box_conf.proofs.Statements.{lines_are, ports_inside}
+use Rattle.box_conf.proofs.laws.lines_are_settings.Goals as goal
+
+pub returns-clause-settings : goal.returns-clause-settings
+returns-clause-settings c = lines_are
+
+pub returns-clause-inside : goal.returns-clause-inside
+returns-clause-inside c = ports_inside
