@@ -4,6 +4,6 @@ pub mod OneFile
 pub mod OneLine
 pub mod Places
 pub mod Ranges
-pub mod Said
 pub mod Statements
 pub mod WholeFile
+pub mod Wordings

@@ -32,7 +32,7 @@ use Rattle.box_conf.specs.Settings.{line_read}
 use Rattle.box_conf.specs.Stated.{Line, EachSays, IsBackend, IsProtocol, IsStatic}
 use Rattle.box_conf.specs.Table.{row_of, values_from, word_of}
 use Rattle.box_conf.proofs.NamedBackends.{begins_so}
-use Rattle.box_conf.proofs.Said.{Said, said, read_so}
+use Rattle.box_conf.proofs.Wordings.{read_so}
 
 abbrev Words : Type 0
 Words = List (List ℕ)
@@ -68,19 +68,19 @@ module _ (rows : List Row) (line : BoxLine) (listed : row_named (word_of line) r
       let is : row ≡ row_of line = cc in
       subst (λ (r : Row). LineSays rows (word ∷ words) r values) is says
 
-  module _ {A : Type 0} (sense : Words → A → Type 0) (of : Option Name → List A) where
+  module _ {A : Type 0} (sense : Words → A → Type 0) (pick : Option Name → List A) where
     -- what these lines name of this kind
     abbrev pub all_of : List Line → List A
     all_of [] = []
-    all_of (x ∷ lines) = of (name_of (words_of x.1)) ++ all_of lines
+    all_of (x ∷ lines) = pick (name_of (words_of x.1)) ++ all_of lines
 
     abbrev Names : Words → List ℕ → Type 0
-    Names words values = (x : A) × sense words x × (of (name_of (word_of line ∷ words)) ≡ x ∷ [])
+    Names words values = (x : A) × sense words x × (pick (name_of (word_of line ∷ words)) ≡ x ∷ [])
 
     module _ (here : (words : Words) (values : List ℕ) → LineSays rows (word_of line ∷ words) (row_of line) values
         → Names words values)
         (elsewhere : (word : List ℕ) (words : Words) → bytes_eq word (word_of line) ≡ false
-        → of (name_of (word ∷ words)) ≡ []) where
+        → pick (name_of (word ∷ words)) ≡ []) where
       pub each_says : (lines : List Line) → AreSaid rows lines → EachSays (word_of line) sense lines (all_of lines)
       each_says [] are = tt
       each_says (x ∷ lines) are = by_words (words_of x.1) refl are.0.2
@@ -89,11 +89,11 @@ module _ (rows : List Row) (line : BoxLine) (listed : row_named (word_of line) r
           Wanted front = EachSays (word_of line) sense (x ∷ lines) (front ++ all_of lines)
 
           by_words : (ws : Words) → words_of x.1 ≡ ws → LineSays rows ws are.0.0 are.0.1
-              → Wanted (of (name_of (words_of x.1)))
+              → Wanted (pick (name_of (words_of x.1)))
           by_words [] e says = absurd says
           by_words (word ∷ words) e says = by (bytes_eq word (word_of line)) refl
             where
-              by : (b : Bool) → bytes_eq word (word_of line) ≡ b → Wanted (of (name_of (words_of x.1)))
+              by : (b : Bool) → bytes_eq word (word_of line) ≡ b → Wanted (pick (name_of (words_of x.1)))
               by true is =
                   let same : word ≡ word_of line = (bytes_eq-Decides word (word_of line)).0 is in
                   let says_it = says_row word words are.0.0 are.0.1 is says in
@@ -101,13 +101,13 @@ module _ (rows : List Row) (line : BoxLine) (listed : row_named (word_of line) r
                   subst (λ (w : List ℕ). LineSays rows (w ∷ words) (row_of line) are.0.1) same says_it in
                   let one = here words are.0.1 at in
                   let words_are : words_of x.1 ≡ word_of line ∷ words = e ∙ ap (λ (w : List ℕ). w ∷ words) same in
-                  let front : of (name_of (words_of x.1)) ≡ one.0 ∷ [] =
-                  ap (λ (ws : Words). of (name_of ws)) words_are ∙ one.2 in
+                  let front : pick (name_of (words_of x.1)) ≡ one.0 ∷ [] =
+                  ap (λ (ws : Words). pick (name_of ws)) words_are ∙ one.2 in
                   subst Wanted (sym front)
                   (inl (words, one.0, all_of lines, words_are, refl, one.1, each_says lines are.1))
               by false is =
-                  let front : of (name_of (words_of x.1)) ≡ [] =
-                  ap (λ (ws : Words). of (name_of ws)) e ∙ elsewhere word words is in
+                  let front : pick (name_of (words_of x.1)) ≡ [] =
+                  ap (λ (ws : Words). pick (name_of ws)) e ∙ elsewhere word words is in
                   subst Wanted (sym front) (
                     inr (
                       λ rest begins. other_word word (word_of line) words rest is (sym e ∙ begins),
@@ -156,7 +156,7 @@ static_says (a ∷ b ∷ c ∷ d ∷ words) (n ∷ m ∷ k ∷ []) s = absurd s.
 static_says (a ∷ b ∷ c ∷ d ∷ e ∷ words) (n ∷ m ∷ k ∷ l ∷ values) s = absurd s.2.2.2.2
 static_says (a ∷ b ∷ c ∷ d ∷ []) (n ∷ m ∷ k ∷ l ∷ j ∷ values) s = absurd s.2.2.2.2
 static_says (a ∷ b ∷ c ∷ d ∷ []) (n ∷ m ∷ k ∷ l ∷ []) s = record {
-  name = a;
+  word = a;
   dotted = b;
   digits = c;
   others = d;

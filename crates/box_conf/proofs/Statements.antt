@@ -35,7 +35,7 @@ use Rattle.box_conf.proofs.Naming.{statics_after, statics_inside}
 use Rattle.box_conf.proofs.NamedBackends.{named_there}
 use Rattle.box_conf.proofs.OneFile.{one_list}
 use Rattle.box_conf.proofs.Ranges.{in_order}
-use Rattle.box_conf.proofs.Said.{no_words, one_word, says_address, says_end, says_flag, says_or, says_some, stands_or, two}
+use Rattle.box_conf.proofs.Wordings.{no_words, one_word, says_address, says_end, says_flag, says_or, says_some, stands_or, two}
 
 -- The first line
 

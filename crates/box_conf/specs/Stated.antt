@@ -85,12 +85,12 @@ IsProtocol word number =
 
 -- PROTOCOL ADDRESS PORT OUTSIDE_PORT
 pub record IsStatic (words : List (List ℕ)) (s : StaticPort) : Type 0 where
-  pub name : List ℕ
+  pub word : List ℕ
   pub dotted : List ℕ
   pub digits : List ℕ
   pub others : List ℕ
-  pub are : words ≡ name ∷ dotted ∷ digits ∷ others ∷ []
-  pub protocol : IsProtocol name s.protocol
+  pub are : words ≡ word ∷ dotted ∷ digits ∷ others ∷ []
+  pub protocol : IsProtocol word s.protocol
   pub address : address_of dotted ≡ Some s.address
   pub port : number_of digits ≡ Some s.port
   pub outside : number_of others ≡ Some s.outside

@@ -156,9 +156,8 @@ fn read_inside(text: &[u8]) -> Option<Values>
     ensures within { IfSome result (IsWithin line.Inside) }
 {
     for line in lines(text) {
-        let inside = inside_of(words(line.bytes));
-        if inside.is_some() {
-            return inside;
+        if let Some(inside) = inside_of(words(line.bytes)) {
+            return Some(inside);
         }
     }
     None
@@ -171,7 +170,10 @@ fn inside_of(mut words: WordIter<'_>) -> Option<Values>
 {
     let word = words.next()?;
     if word == BoxLine::Inside.word() {
-        read_line(words, BoxLine::Inside, false).ok()
+        match read_line(words, BoxLine::Inside, false) {
+            Ok(values) => Some(values),
+            Err(_) => None,
+        }
     } else {
         None
     }

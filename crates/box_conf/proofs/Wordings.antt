@@ -23,16 +23,16 @@ use Rattle.box_conf.proofs.NamedBackends.{begins_so}
 use Rattle.box_conf.proofs.Ranges.{within, in_order}
 
 -- a line of a row is its word, and what stands at its places
-pub record Said (row : Row) (words : List (List ℕ)) (values : List ℕ) : Type 0 where
+pub record Wording (row : Row) (words : List (List ℕ)) (values : List ℕ) : Type 0 where
   pub rest : List (List ℕ)
   pub are : words ≡ row.word ∷ rest
   pub say : PlacesSay row.places rest values
   pub fit : row.fits values ≡ true
 
-pub said : (rows : List Row) (words : List (List ℕ)) (row : Row) (values : List ℕ) → LineSays rows words row values
-    → Said row words values
-said rows [] row values s = absurd s
-said rows (word ∷ words) row values s = record {
+pub wording : (rows : List Row) (words : List (List ℕ)) (row : Row) (values : List ℕ) → LineSays rows words row values
+    → Wording row words values
+wording rows [] row values s = absurd s
+wording rows (word ∷ words) row values s = record {
   rest = words;
   are = ap (λ (w : List ℕ). w ∷ words) ((bytes_eq-Decides word row.word).0 (begins_so word rows row s.0));
   say = s.1;
@@ -52,7 +52,7 @@ read_so rows line word words values says =
 
 -- At the places
 
-number : (lines : List Line) (word : List ℕ) (low high : ℕ) (rest : List (List ℕ)) (values : List ℕ)
+pub number : (lines : List Line) (word : List ℕ) (low high : ℕ) (rest : List (List ℕ)) (values : List ℕ)
     → Stands lines (word ∷ rest) → PlacesSay (Number low high ∷ []) rest values
     → SaysNumber lines word (values_from values).first
     × (low ≤ (values_from values).first)
@@ -64,7 +64,7 @@ number lines word low high (d ∷ []) (n ∷ m ∷ values) stands s = absurd s.2
 number lines word low high (d ∷ []) (n ∷ []) stands s =
     let in_range = within low high n s.1 in ((d, stands, s.0), in_range.0, in_range.1)
 
-address : (lines : List Line) (word : List ℕ) (rest : List (List ℕ)) (values : List ℕ)
+pub address : (lines : List Line) (word : List ℕ) (rest : List (List ℕ)) (values : List ℕ)
     → Stands lines (word ∷ rest) → PlacesSay (Address ∷ []) rest values
     → SaysAddress lines word (values_from values).first
 address lines word [] values stands s = absurd s
@@ -73,7 +73,7 @@ address lines word (d ∷ e ∷ rest) (n ∷ values) stands s = absurd s.2
 address lines word (d ∷ []) (n ∷ m ∷ values) stands s = absurd s.2
 address lines word (d ∷ []) (n ∷ []) stands s = (d, stands, s.0)
 
-end_of : (lines : List Line) (word : List ℕ) (low high : ℕ) (rest : List (List ℕ)) (values : List ℕ)
+pub end_of : (lines : List Line) (word : List ℕ) (low high : ℕ) (rest : List (List ℕ)) (values : List ℕ)
     → Stands lines (word ∷ rest) → PlacesSay (Address ∷ Number low high ∷ []) rest values
     → SaysEnd lines word (values_from values).first (values_from values).second
     × (low ≤ (values_from values).second)
@@ -92,7 +92,7 @@ abbrev Two : List Line → List ℕ → ℕ → ℕ → Type 0
 Two lines word a b =
     (from to : List ℕ) × Stands lines (word ∷ from ∷ to ∷ []) × (number_of from ≡ Some a) × (number_of to ≡ Some b)
 
-two : (lines : List Line) (word : List ℕ) (low high : ℕ) (rest : List (List ℕ)) (values : List ℕ)
+pub two : (lines : List Line) (word : List ℕ) (low high : ℕ) (rest : List (List ℕ)) (values : List ℕ)
     → Stands lines (word ∷ rest) → PlacesSay (Number low high ∷ Number low high ∷ []) rest values
     → Two lines word (values_from values).first (values_from values).second
     × (low ≤ (values_from values).first)
@@ -111,13 +111,13 @@ two lines word low high (a ∷ d ∷ []) (n ∷ m ∷ []) stands s =
 abbrev IsZero : List ℕ → Type 0
 IsZero values = ((values_from values).first == 0) ≡ true
 
-no_words : (lines : List Line) (word : List ℕ) (rest : List (List ℕ)) (values : List ℕ) → Stands lines (word ∷ rest)
+pub no_words : (lines : List Line) (word : List ℕ) (rest : List (List ℕ)) (values : List ℕ) → Stands lines (word ∷ rest)
     → PlacesSay [] rest values → Stands lines (word ∷ []) × IsZero values
 no_words lines word [] [] stands s = (stands, refl)
 no_words lines word [] (n ∷ values) stands s = absurd s
 no_words lines word (w ∷ rest) values stands s = absurd s
 
-one_word : (lines : List Line) (word known : List ℕ) (rest : List (List ℕ)) (values : List ℕ)
+pub one_word : (lines : List Line) (word known : List ℕ) (rest : List (List ℕ)) (values : List ℕ)
     → Stands lines (word ∷ rest) → PlacesSay (OneOf (known ∷ []) ∷ []) rest values
     → Stands lines (word ∷ known ∷ []) × IsZero values
 one_word lines word known [] values stands s = absurd s
@@ -162,7 +162,7 @@ module _ (kind : KindWord) (lines : List Line) (rows : AreLines (rows_of kind) l
   worded : (line : BoxLine) (values : List ℕ) (x : Line) → HasLine lines x → Says (rows_of kind) x (row_of line) values
       → Worded line values
   worded line values x there says =
-      let s = said (rows_of kind) (words_of x.1) (row_of line) values says in
+      let s = wording (rows_of kind) (words_of x.1) (row_of line) values says in
       (s.rest, (x, there, s.are), s.say, s.fit)
 
   -- a line stands, or it has its usual values and is absent
