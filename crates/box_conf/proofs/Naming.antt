@@ -1,9 +1,9 @@
 -- What the lines name that may stand again: each line `static` and `backend` names one, in their order; there are at most
 -- 64 of each, and the static ports are of the inside network.
-use Rattle.std.proofs.Common.{◌≡◌, ℕ, ◌-◌, ◌/◌, ◌^◌, ◌==◌, ◌<◌, ◌≤◌, ◌⊎◌, inl, inr, List, [], ◌∷◌, ◌++◌, refl, sym, ap}
+use Rattle.std.proofs.Common.{◌≡◌, ℕ, ◌+◌, ◌<◌, ◌≤◌, ◌⊎◌, inl, inr, List, [], ◌∷◌, ◌++◌, refl, sym, ap}
 use Rattle.std.proofs.Common.{◌∙◌, subst, arith, Option, Some, None, true, false, Bool, cond, Ok, Err, length, append-nil}
 use Rattle.std.proofs.Common.{append_assoc, length-append}
-use Rattle.std.specs.Prelude.{Result, ◌&&◌, not, nat_lt, codes, map, option_map, slice_get, suc, zero, slice_index}
+use Rattle.std.specs.Prelude.{Result, ◌&&◌, not, nat_lt, codes, option_map}
 use Rattle.std.specs.List.{AllByRecursion}
 use Rattle.std.specs.Str.{bytes_eq}
 use Rattle.std.proofs.lemmas.Bool.Decides.{nat_tests}
@@ -83,15 +83,15 @@ module _ (rows : List Row) (line : BoxLine) (listed : row_named (word_of line) r
         → pick (name_of (word ∷ words)) ≡ []) where
       pub each_says : (lines : List Line) → AreSaid rows lines → EachSays (word_of line) sense lines (all_of lines)
       each_says [] are = tt
-      each_says (x ∷ lines) are = by_words (words_of x.1) refl are.0.2
+      each_says (x ∷ lines) are = by_words (words_of x.1) refl are.0.2 (each_says lines are.1)
         where
           Wanted : List A → Type 0
           Wanted front = EachSays (word_of line) sense (x ∷ lines) (front ++ all_of lines)
 
           by_words : (ws : Words) → words_of x.1 ≡ ws → LineSays rows ws are.0.0 are.0.1
-              → Wanted (pick (name_of (words_of x.1)))
-          by_words [] e says = absurd says
-          by_words (word ∷ words) e says = by (bytes_eq word (word_of line)) refl
+              → EachSays (word_of line) sense lines (all_of lines) → Wanted (pick (name_of (words_of x.1)))
+          by_words [] e says more = absurd says
+          by_words (word ∷ words) e says more = by (bytes_eq word (word_of line)) refl
             where
               by : (b : Bool) → bytes_eq word (word_of line) ≡ b → Wanted (pick (name_of (words_of x.1)))
               by true is =
@@ -104,15 +104,15 @@ module _ (rows : List Row) (line : BoxLine) (listed : row_named (word_of line) r
                   let front : pick (name_of (words_of x.1)) ≡ one.0 ∷ [] =
                   ap (λ (ws : Words). pick (name_of ws)) words_are ∙ one.2 in
                   subst Wanted (sym front)
-                  (inl (words, one.0, all_of lines, words_are, refl, one.1, each_says lines are.1))
+                  (inl (words, one.0, all_of lines, words_are, refl, one.1, more))
               by false is =
                   let front : pick (name_of (words_of x.1)) ≡ [] =
                   ap (λ (ws : Words). pick (name_of ws)) e ∙ elsewhere word words is in
                   subst Wanted (sym front) (
-                    inr (
-                      λ rest begins. other_word word (word_of line) words rest is (sym e ∙ begins),
-                      each_says lines are.1,
-                    )
+                  inr (
+                    λ rest begins. other_word word (word_of line) words rest is (sym e ∙ begins),
+                    more,
+                  )
                   )
 
 -- Static ports
@@ -208,7 +208,7 @@ server_here rows words values says = (
   backend_from (values_from values),
   server_says words values says.1,
   ap (λ (r : Result Values LineCause). server_of (backend_named r))
-  (read_so rows Backend (word_of Backend) words values says),
+      (read_so rows Backend (word_of Backend) words values says),
 )
 
 pub server_elsewhere : (word : List ℕ) (words : Words) → bytes_eq word (word_of Backend) ≡ false
@@ -335,7 +335,7 @@ statics_inside network names lines e all =
 
 -- The inside network is that of the line that says it
 
-record FindsInside (rows : List Row) (lines : List Line) : Type 0 where
+pub record FindsInside (rows : List Row) (lines : List Line) : Type 0 where
   pub line : Line
   pub values : List ℕ
   pub there : HasLine lines line
@@ -346,11 +346,11 @@ module _ (rows : List Row) (listed : row_named (word_of Inside) rows ≡ Some (r
   pub finds_inside : (lines : List Line) (x : Line) (values : List ℕ) → AreSaid rows lines → HasLine lines x
       → Says rows x (row_of Inside) values → FindsInside rows lines
   finds_inside [] x values are there says = absurd there
-  finds_inside (line ∷ lines) x values are there says = by_words (words_of line.1) refl are.0.2
+  finds_inside (line ∷ lines) x values are there says =
+      by_words (words_of line.1) refl are.0.2 (λ there. finds_inside lines x values are.1 there says)
     where
-      later : inside_of (words_of line.1) ≡ None → HasLine lines x → FindsInside rows (line ∷ lines)
-      later none there =
-          let rest = finds_inside lines x values are.1 there says in
+      later : inside_of (words_of line.1) ≡ None → FindsInside rows lines → FindsInside rows (line ∷ lines)
+      later none rest =
           record {
             line = rest.line;
             values = rest.values;
@@ -359,9 +359,10 @@ module _ (rows : List Row) (listed : row_named (word_of Inside) rows ≡ Some (r
             found = ap (λ (o : Option Values). or_inside o (inside_in lines)) none ∙ rest.found;
           }
 
-      by_words : (ws : Words) → words_of line.1 ≡ ws → LineSays rows ws are.0.0 are.0.1 → FindsInside rows (line ∷ lines)
-      by_words [] e said = absurd said
-      by_words (word ∷ words) e said = by (bytes_eq word (word_of Inside)) refl
+      by_words : (ws : Words) → words_of line.1 ≡ ws → LineSays rows ws are.0.0 are.0.1
+          → (HasLine lines x → FindsInside rows lines) → FindsInside rows (line ∷ lines)
+      by_words [] e said more = absurd said
+      by_words (word ∷ words) e said more = by (bytes_eq word (word_of Inside)) refl
         where
           by : (b : Bool) → bytes_eq word (word_of Inside) ≡ b → FindsInside rows (line ∷ lines)
           by true is =
@@ -380,7 +381,7 @@ module _ (rows : List Row) (listed : row_named (word_of Inside) rows ≡ Some (r
           by false is =
               let none : inside_of (words_of line.1) ≡ None =
               ap inside_of e ∙ ap (λ (b : Bool). cond b (values_read (line_read Inside false words)) None) is in
-              later none (not_here there)
+              later none (more (not_here there))
             where
               not_here : (x ≡ line) ⊎ HasLine lines x → HasLine lines x
               not_here (inr there) = there

@@ -1,7 +1,7 @@
 -- Each line of a box file is a setting of the box, kind by kind.
-use Rattle.std.proofs.Common.{◌≡◌, ℕ, zero, suc, ◌<◌, ◌≤◌, ◌-◌, ◌/◌, ◌^◌, ◌⊎◌, inl, inr, List, [], ◌∷◌, refl, sym, ap}
-use Rattle.std.proofs.Common.{◌∙◌, subst, arith, Option, Some, None, true, false, Bool, cond, length, take, min, max}
-use Rattle.std.specs.Prelude.{◌==◌, codes, map, option_map, slice_get}
+use Rattle.std.proofs.Common.{◌≡◌, ℕ, zero, suc, ◌+◌, ◌<◌, ◌≤◌, ◌-◌, ◌^◌, ◌⊎◌, inl, inr, List, [], ◌∷◌, refl, sym, ap}
+use Rattle.std.proofs.Common.{◌∙◌, subst, arith, Option, Some, None, true, false, Bool, cond, length}
+use Rattle.std.specs.Prelude.{◌/◌, ◌==◌, codes, map, max, min, option_map, slice_get, take}
 use Rattle.std.specs.List.{AllByRecursion}
 use Rattle.std.specs.Str.{bytes_eq}
 use Rattle.std.proofs.lemmas.Slice.Eq.{bytes_eq-Decides}
@@ -44,19 +44,22 @@ names_word : (all : List KindWord) (word : List ℕ) (n : ℕ) (k : KindWord) �
 names_word [] word n k e f = absurd (cc)
 names_word (first ∷ all) word n k e f =
     by (bytes_eq word (kind_word first)) refl (index_in word (map kind_word all)) refl e
+    (λ m found at. names_word all word m k found at)
   where
     by : (b : Bool) → bytes_eq word (kind_word first) ≡ b → (o : Option ℕ) → index_in word (map kind_word all) ≡ o
-        → cond b (Some 0) (option_map (λ n. n + 1) o) ≡ Some n → word ≡ kind_word k
-    by true is o found e =
+        → cond b (Some 0) (option_map (λ n. n + 1) o) ≡ Some n
+        → ((m : ℕ) → index_in word (map kind_word all) ≡ Some m → slice_get all m ≡ Some k → word ≡ kind_word k)
+        → word ≡ kind_word k
+    by true is o found e more =
         let zero_is : 0 ≡ n = cc in
         let got : Some first ≡ Some k = ap (slice_get (first ∷ all)) zero_is ∙ f in
         let same : first ≡ k = cc in
         (bytes_eq-Decides word (kind_word first)).0 is ∙ ap kind_word same
-    by false is None found e = absurd (cc)
-    by false is (Some m) found e =
+    by false is None found e more = absurd (cc)
+    by false is (Some m) found e more =
         let next : m + 1 ≡ n = cc in
         let at : suc m ≡ n = omega (arith, next) in
-        names_word all word m k found (ap (slice_get (first ∷ all)) at ∙ f)
+        more m found (ap (slice_get (first ∷ all)) at ∙ f)
 
 first_words : (words : List (List ℕ)) (n : ℕ) (k : KindWord) → LineSays (box_row ∷ []) words box_row (n ∷ [])
     → slice_get kinds n ≡ Some k → words ≡ codes "box" ∷ kind_word k ∷ []
@@ -160,7 +163,7 @@ module _ (lines : List Line) where
           begins lines kind.Monitor x.names,
           tags,
           subst (λ (n : ℕ). SaysOr lines (codes "shards") 16 n)
-          (sym (stays_between 1 64 (Of x Shards).first shards.1 shards.2)) shards.0,
+              (sym (stays_between 1 64 (Of x Shards).first shards.1 shards.2)) shards.0,
         );
       }
 
@@ -209,7 +212,8 @@ module _ (lines : List Line) where
 
   -- as many backends as there may be stay as they are
   taken : (n : ℕ) (xs : List Server) → length xs ≤ n → take n xs ≡ xs
-  taken n [] few = refl
+  taken zero [] few = refl
+  taken (suc n) [] few = refl
   taken zero (x ∷ xs) few = absurd (omega (arith, few))
   taken (suc n) (x ∷ xs) few = ap (λ (l : List Server). x ∷ l) (taken n xs (omega (arith, few)))
 

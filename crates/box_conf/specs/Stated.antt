@@ -65,18 +65,23 @@ SaysRange lines word least greatest low high =
     ((from to : List ℕ) × Stands lines (word ∷ from ∷ to ∷ []) × (number_of from ≡ Some low) × (number_of to ≡ Some high))
     ⊎ (IsAbsent lines word × (low ≡ least) × (high ≡ greatest))
 
+-- a line of this word says the first of these, and further lines the others; or it is of another word
+abbrev pub SaysNext : {A : Type 0} → List ℕ → (List (List ℕ) → A → Type 0) → Line → (List A → Type 0) → List A
+    → Type 0
+SaysNext {A} word says line further xs = Here ⊎ Elsewhere
+  where
+    Here : Type 0
+    Here = (words : List (List ℕ)) × (x : A) × (others : List A) × (words_of line.1 ≡ word ∷ words) × (xs ≡ x ∷ others)
+        × says words x × further others
+
+    Elsewhere : Type 0
+    Elsewhere = ((words : List (List ℕ)) → words_of line.1 ≡ word ∷ words → ⊥) × further xs
+
 -- The lines of this word say these, line by line, and there are no others: what the words after it say is given.
 abbrev pub EachSays : {A : Type 0} → List ℕ → (List (List ℕ) → A → Type 0) → List Line → List A → Type 0
 EachSays word says [] [] = Unit {0}
 EachSays word says [] (x ∷ xs) = ⊥
-EachSays {A} word says (line ∷ lines) xs = Here ⊎ Elsewhere
-  where
-    Here : Type 0
-    Here = (words : List (List ℕ)) × (x : A) × (others : List A) × (words_of line.1 ≡ word ∷ words) × (xs ≡ x ∷ others)
-        × says words x × EachSays word says lines others
-
-    Elsewhere : Type 0
-    Elsewhere = ((words : List (List ℕ)) → words_of line.1 ≡ word ∷ words → ⊥) × EachSays word says lines xs
+EachSays word says (line ∷ lines) xs = SaysNext word says line (λ others. EachSays word says lines others) xs
 
 -- the number of a protocol, by its word
 abbrev pub IsProtocol : List ℕ → ℕ → Type 0
