@@ -107,3 +107,5 @@ one_more place places words rest n more taken read =
     values takes =
         ap (values_in (map grammar_place (place ∷ places))) takes.front
         ∙ ap (λ (o : Option ℕ). unwrap_or o 0 ∷ values_in (map grammar_place places) rest) takes.value
+
+pub ruleset at_each_place = (none_left, word_left, takes_none, later_fault, one_more)

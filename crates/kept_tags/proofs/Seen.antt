@@ -33,8 +33,13 @@ tagged_is frame has =
     let type : (ether_type frame == 0x8100) ≡ true = grind (arith, nat_tests, word) in
     ap (λ (b : Bool). not b && (ether_type frame == 0x8100)) long ∙ type
 
+-- nothing is left out
+none_left_out : (p : Packet) → without_first 0 p ≡ p
+none_left_out p =
+    let same : p.original - 0 ≡ p.original = omega arith in ap (λ (n : ℕ). record p { original = n }) same
+
 seen_whole : (p : Packet) (is : Bool) → is ≡ false → without_first (if is then 4 else 0) p ≡ p
-seen_whole p false e = refl
+seen_whole p false e = none_left_out p
 seen_whole p true e = absurd (cc)
 
 pub untagged_seen : (p : Packet) → AreBytes p.bytes → (HasTag p.bytes → ⊥) → behind_tag true p ≡ p
@@ -45,7 +50,7 @@ pub tagged_seen : (p : Packet) → HasTag p.bytes
 tagged_seen p has = ap (λ (k : ℕ). without_first k p) (tag_is_4 p.bytes (tagged_is p.bytes has))
 
 pub unasked_seen : (p : Packet) → behind_tag false p ≡ p
-unasked_seen p = refl
+unasked_seen p = none_left_out p
 
 pub back_again : (tags : Bool) (p : Packet) → with_behind tags p (behind_tag tags p).bytes ≡ p
 back_again tags p =
