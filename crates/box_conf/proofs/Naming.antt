@@ -10,21 +10,17 @@ use Rattle.std.proofs.lemmas.Bool.Decides.{nat_tests}
 use Rattle.std.proofs.lemmas.Slice.Eq.{bytes_eq-Decides}
 use Rattle.plain_text.specs.declared.fault.LineCause.{LineCause}
 use Rattle.plain_text.specs.declared.fault.LineCause.TheVariants.{OutOfRange, Twice}
-use Rattle.plain_text.specs.declared.fault.LineFault.{LineFault}
-use Rattle.plain_text.specs.Grammar.{Number, OneOf, Address, Row, Has as HasLine, Says, LineSays, PlacesSay, row_named}
+use Rattle.plain_text.specs.Grammar.{Row, Has as HasLine, Says, LineSays, PlacesSay, row_named}
 use Rattle.plain_text.specs.Grammar.{index_in}
-use Rattle.plain_text.specs.Lines.{address_of, number_of, words_of}
+use Rattle.plain_text.specs.Lines.{words_of}
 use Rattle.balancer_box.specs.declared.backends.Backend.{Backend as Server}
 use Rattle.nat_box.specs.declared.nat.StaticPort.{StaticPort}
-use Rattle.box_conf.specs.declared.kind.KindWord.{KindWord}
-use Rattle.box_conf.specs.declared.kind.KindWord.TheVariants as kind
 use Rattle.box_conf.specs.declared.names.Name.{Name}
 use Rattle.box_conf.specs.declared.names.Name.TheVariants as name
 use Rattle.box_conf.specs.declared.names.Named.{Named}
 use Rattle.box_conf.specs.declared.table.BoxLine.{BoxLine}
 use Rattle.box_conf.specs.declared.table.BoxLine.TheVariants.{Static, Backend, Inside}
 use Rattle.box_conf.specs.declared.table.Values.{Values}
-use Rattle.box_conf.specs.Kinds.{rows_of}
 use Rattle.box_conf.specs.Names.{and_name, backend_from, backend_named, count_of, has_name, inside_in, inside_of}
 use Rattle.box_conf.specs.Names.{is_of_network, is_stray, name_cause, name_of, names_after, names_fault, or_inside, or_later}
 use Rattle.box_conf.specs.Names.{protocol_of, static_from, static_named, values_read, with_name}

@@ -1,35 +1,33 @@
 -- Each line of a box file is a setting of the box, kind by kind.
-use Rattle.std.proofs.Common.{◌≡◌, ℕ, zero, suc, ◌+◌, ◌<◌, ◌≤◌, ◌-◌, ◌^◌, ◌⊎◌, inl, inr, List, [], ◌∷◌, refl, sym, ap}
+use Rattle.std.proofs.Common.{◌≡◌, ℕ, zero, suc, ◌+◌, ◌≤◌, ◌-◌, ◌^◌, ◌⊎◌, inl, inr, List, [], ◌∷◌, refl, sym, ap}
 use Rattle.std.proofs.Common.{◌∙◌, subst, arith, Option, Some, None, true, false, Bool, cond, length}
 use Rattle.std.specs.Prelude.{◌/◌, ◌==◌, codes, map, max, min, option_map, slice_get, take}
 use Rattle.std.specs.List.{AllByRecursion}
 use Rattle.std.specs.Str.{bytes_eq}
 use Rattle.std.proofs.lemmas.Slice.Eq.{bytes_eq-Decides}
-use Rattle.plain_text.specs.declared.fault.LineFault.{LineFault}
-use Rattle.plain_text.specs.Grammar.{Number, OneOf, PlacesSay, LineSays, index_in, Has as HasLine, Says}
-use Rattle.plain_text.specs.Lines.{number_of, words_of, counted_lines}
+use Rattle.plain_text.specs.Grammar.{PlacesSay, LineSays, index_in}
+use Rattle.plain_text.specs.Lines.{words_of, counted_lines}
 use Rattle.balancer_box.specs.declared.backends.Backend.{Backend as Server}
 use Rattle.balancer_box.specs.Boxes as balancer_boxes
 use Rattle.nat_box.specs.declared.nat.StaticPort.{StaticPort}
-use Rattle.nat_box.specs.Nat as nat
 use Rattle.nat_box.specs.Boxes as nat_boxes
 use Rattle.box_conf.specs.declared.kind.BoxConf.{BoxConf}
 use Rattle.box_conf.specs.declared.kind.BoxKind.{BoxKind}
+use Rattle.box_conf.specs.declared.kind.BoxKind.TheVariants as box
 use Rattle.box_conf.specs.declared.kind.KindWord.{KindWord}
 use Rattle.box_conf.specs.declared.kind.KindWord.TheVariants as kind
-use Rattle.box_conf.specs.declared.names.Named.{Named}
 use Rattle.box_conf.specs.declared.table.BoxLine.{BoxLine}
 use Rattle.box_conf.specs.declared.table.BoxLine.TheVariants.{Threads, Seed, Shards, Inside, Outside, Ports, Closing}
 use Rattle.box_conf.specs.declared.table.BoxLine.TheVariants.{Vlan, Limit, Icmp, Static, Virtual, Backend}
 use Rattle.box_conf.specs.declared.table.Values.{Values}
-use Rattle.box_conf.specs.BoxFile.{AreOfKind, IsBoxFile, Names, Has as HasValues}
+use Rattle.box_conf.specs.BoxFile.{AreOfKind, IsBoxFile, Names}
 use Rattle.box_conf.specs.Kinds.{balancer_from, box_row, conf_from, has_tags, kind_word, kinds, nat_from, rows_of}
-use Rattle.box_conf.specs.Names.{fault_of_names, inside_in, is_of_network, named_in, names_fault, no_names}
+use Rattle.box_conf.specs.Names.{fault_of_names, inside_in, named_in, names_fault, no_names}
 use Rattle.box_conf.specs.Settings.{usual_or_none}
 use Rattle.box_conf.specs.Stated.{Line, Begins, AreInside, AreSettings, OfBalancer, OfNat, SaysEnd, SaysOr, SaysRange}
-use Rattle.box_conf.specs.Stated.{SaysTags, Stands, EachSays, IsBackend, IsStatic}
+use Rattle.box_conf.specs.Stated.{SaysTags, Stands, EachSays, IsBackend, IsStatic, MeansSettings}
 use Rattle.box_conf.specs.Table.{row_of, values_from, word_of}
-use Rattle.box_conf.proofs.Naming.{AreOf, AreSaid, are_said, each_says, few_servers, finds_inside, server_elsewhere}
+use Rattle.box_conf.proofs.Naming.{AreOf, are_said, each_says, few_servers, finds_inside, server_elsewhere}
 use Rattle.box_conf.proofs.Naming.{server_here, server_of, servers_after, static_elsewhere, static_here, static_of}
 use Rattle.box_conf.proofs.Naming.{statics_after, statics_inside}
 use Rattle.box_conf.proofs.NamedBackends.{named_there}
@@ -291,6 +289,12 @@ module _ (lines : List Line) where
 
 pub lines_are : (text : List ℕ) (conf : BoxConf) → IsBoxFile text conf → AreSettings (counted_lines text) conf
 lines_are text conf x = says_all (counted_lines text) x.0.0 conf x.0.1 x.1
+
+pub means_settings : (k : BoxKind) → MeansSettings k
+means_settings (box.Count b) = refl
+means_settings (box.Monitor b) = refl
+means_settings (box.Nat b) = refl
+means_settings (box.Balancer b) = refl
 
 -- The static ports of a NAT
 

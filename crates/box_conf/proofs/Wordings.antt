@@ -1,26 +1,24 @@
 -- What a line of a table says, in its words; and where no line says a row, none begins with its word.
-use Rattle.std.proofs.Common.{◌≡◌, ℕ, zero, suc, ◌<◌, ◌≤◌, ◌⊎◌, inl, inr, List, [], ◌∷◌, ◌++◌, refl, sym, ap, ◌∙◌}
-use Rattle.std.proofs.Common.{subst, arith, Option, Some, None, true, false, Bool, cond, Ok, append-nil, append_assoc}
-use Rattle.std.specs.Prelude.{◌==◌, codes, map, option_map, slice_get, IfSome}
+use Rattle.std.proofs.Common.{◌≡◌, ℕ, ◌≤◌, ◌⊎◌, inl, inr, List, [], ◌∷◌, refl, sym, ap, ◌∙◌}
+use Rattle.std.proofs.Common.{subst, arith, Option, Some, None, true, false, Bool, cond, Ok}
+use Rattle.std.specs.Prelude.{◌==◌}
 use Rattle.std.specs.Str.{bytes_eq}
 use Rattle.std.proofs.lemmas.Bool.Decides.{nat_tests}
 use Rattle.std.proofs.lemmas.Slice.Eq.{bytes_eq-Decides}
 use Rattle.plain_text.specs.declared.fault.LineCause.{LineCause}
 use Rattle.plain_text.specs.Grammar.{Number, OneOf, Address, Place, Row, Has as HasLine, Says, LineSays, PlacesSay}
-use Rattle.plain_text.specs.Grammar.{AreLines, AllStand, IsRow, row_named, row_fault, values_in, index_in}
-use Rattle.plain_text.specs.Lines.{address_of, number_of, words_of}
+use Rattle.plain_text.specs.Grammar.{AreLines, AllStand, IsRow, row_named, row_fault, values_in}
+use Rattle.plain_text.specs.Lines.{number_of, words_of}
 use Rattle.plain_text.proofs.Rows.{says_no_fault, says_values}
 use Rattle.box_conf.specs.declared.kind.KindWord.{KindWord}
 use Rattle.box_conf.specs.declared.table.BoxLine.{BoxLine}
-use Rattle.box_conf.specs.declared.table.Values.{Values}
-use Rattle.box_conf.specs.BoxFile.{Names, Has as HasValues}
-use Rattle.box_conf.specs.Kinds.{box_row, kind_word, kinds, rows_of, number_of as number_or_none}
+use Rattle.box_conf.specs.BoxFile.{Has as HasValues}
+use Rattle.box_conf.specs.Kinds.{rows_of, number_of as number_or_none}
 use Rattle.box_conf.specs.Settings.{line_read, once, usual_or_none}
 use Rattle.box_conf.specs.Stated.{Line, Stands, IsAbsent, SaysNumber, SaysOr, SaysSome, SaysFlag, SaysEnd, SaysAddress}
-use Rattle.box_conf.specs.Stated.{SaysRange, Begins}
 use Rattle.box_conf.specs.Table.{row_of, values_from, word_of}
 use Rattle.box_conf.proofs.NamedBackends.{begins_so}
-use Rattle.box_conf.proofs.Ranges.{within, in_order}
+use Rattle.box_conf.proofs.Ranges.{within}
 
 -- a line of a row is its word, and what stands at its places
 pub record Wording (row : Row) (words : List (List ℕ)) (values : List ℕ) : Type 0 where

@@ -4,8 +4,9 @@ use Rattle.std.specs.Prelude.{◌≡◌, ◌⊎◌, ℕ, Bool, true, false, List
 use Rattle.std.specs.List.{AllByRecursion}
 use Rattle.plain_text.specs.Grammar.{Has}
 use Rattle.plain_text.specs.Lines.{address_of, number_of, words_of}
-use Rattle.tagged_box.specs.declared.tagged.Tagged.{Tagged}
-use Rattle.monitor_box.specs.declared.monitor.MonitorBox.{MonitorBox}
+use Rattle.box_program.specs.Count.{count_meaning}
+use Rattle.tagged_box.specs.Tagged.{tagged_meaning}
+use Rattle.monitor_box.specs.Monitor.{monitor_meaning}
 use Rattle.nat_box.specs.declared.nat.StaticPort.{StaticPort}
 use Rattle.nat_box.specs.Nat as nat
 use Rattle.nat_box.specs.Boxes as nat_boxes
@@ -15,6 +16,7 @@ use Rattle.balancer_box.specs.Boxes as balancer_boxes
 use Rattle.box_conf.specs.declared.kind.BoxConf.{BoxConf}
 use Rattle.box_conf.specs.declared.kind.BoxKind.{BoxKind}
 use Rattle.box_conf.specs.declared.kind.BoxKind.TheVariants.{Count, Monitor, Nat, Balancer}
+use Rattle.box_conf.specs.Kinds.{meaning_of}
 
 abbrev pub Line : Type 0
 Line = ℕ × List ℕ
@@ -152,6 +154,18 @@ pub record AreSettings (lines : List Line) (conf : BoxConf) : Type 0 where
   pub seed : SaysOr lines (codes "seed") 0 conf.seed
   pub tags : SaysTags lines conf.tags
   pub kind : OfKind lines conf.kind
+
+-- The box means what its kind does with these settings, and looks through a tag where it says so.
+abbrev pub MeansSettings : BoxKind → Type 0
+MeansSettings (Count box) = (meaning_of (Count box)).meaning ≡ tagged_meaning box.tags count_meaning
+MeansSettings (Monitor box) =
+    (meaning_of (Monitor box)).meaning ≡ tagged_meaning box.tags (monitor_meaning box.program.shards)
+MeansSettings (Nat box) =
+    (meaning_of (Nat box)).meaning
+    ≡ tagged_meaning box.tags (nat.nat_meaning (nat_boxes.settings_of box.program))
+MeansSettings (Balancer box) =
+    (meaning_of (Balancer box)).meaning
+    ≡ tagged_meaning box.tags (balancer.balancer_meaning (balancer_boxes.settings_of box.program))
 
 -- the static ports of a NAT are of its inside network
 abbrev pub AreInside : BoxKind → Type 0

@@ -1,5 +1,5 @@
-//! The laws of tags that are looked through: which bytes are one, and that each goes out as it came in, whatever the box.
-//! Each is proved, and does nothing: a caller has it by the call.
+//! The laws of tags that are looked through: which bytes are a tag, and that each goes out as it came in, whatever the
+//! box. Each is proved, and does nothing: a caller has it by the call.
 #![tactic(auto)]
 
 mod laws;
