@@ -1,6 +1,9 @@
 pub mod NamedBackends
+pub mod Naming
 pub mod OneFile
 pub mod OneLine
 pub mod Places
 pub mod Ranges
+pub mod Statements
 pub mod WholeFile
+pub mod Wordings

@@ -1,5 +1,5 @@
 -- A balancer's file names a backend.
-use Rattle.std.proofs.Common.{◌≡◌, ℕ, ◌≤◌, inl, inr, List, [], ◌∷◌, ◌++◌, length, length-append, refl, sym, ap, ◌∙◌}
+use Rattle.std.proofs.Common.{◌≡◌, ℕ, ◌≤◌, inl, inr, List, [], ◌∷◌, length, length-append, refl, sym, ap, ◌∙◌}
 use Rattle.std.proofs.Common.{subst, arith, Option, Some, None, true, false, Bool, cond, Ok}
 use Rattle.std.specs.Prelude.{Result}
 use Rattle.std.specs.Str.{bytes_eq}
@@ -31,7 +31,7 @@ use Rattle.box_conf.specs.Table.{row_of, values_from, word_of}
 use Rattle.box_conf.proofs.WholeFile.{Reads, reads_text}
 
 -- a line begins with its row's word
-begins_so : (word : List ℕ) (rows : List Row) (row : Row) → row_named word rows ≡ Some row
+pub begins_so : (word : List ℕ) (rows : List Row) (row : Row) → row_named word rows ≡ Some row
     → bytes_eq word row.word ≡ true
 begins_so word [] row e = absurd (cc)
 begins_so word (first ∷ rows) row e = by (bytes_eq word first.word) refl e (begins_so word rows row)
@@ -69,7 +69,7 @@ longer names (line ∷ lines) = by (name_of (words_of line.1)) (λ more. longer 
     by (Some (name.Backend b)) rest =
         let a = rest (with_name names (name.Backend b)) in omega (arith, length-append names.backends (b ∷ []))
 
-named_there : (rows : List Row) (names : Named) (lines : List (ℕ × List ℕ)) (x : ℕ × List ℕ) (values : List ℕ)
+pub named_there : (rows : List Row) (names : Named) (lines : List (ℕ × List ℕ)) (x : ℕ × List ℕ) (values : List ℕ)
     → HasLine lines x → Says rows x (row_of Backend) values → 1 ≤ length (names_after names lines).backends
 named_there rows names [] x values there says = absurd there
 named_there rows names (line ∷ lines) x values (inr there) says =

@@ -17,7 +17,7 @@ use Rattle.box_conf.specs.declared.names.Named.{Named}
 use Rattle.box_conf.specs.declared.table.BoxLine.TheVariants.{Threads, Seed, Shards, Inside, Outside, Ports, Closing}
 use Rattle.box_conf.specs.declared.table.BoxLine.TheVariants.{Vlan, Limit, Icmp, Static, Virtual, Backend}
 use Rattle.box_conf.specs.declared.table.BoxLine.{BoxLine}
-use Rattle.box_conf.specs.Names.{named_in, names_fault, no_names}
+use Rattle.box_conf.specs.Names.{named_in, fault_of_names}
 use Rattle.box_conf.specs.BoxFile.{AreOfKind, IsDescribed, IsBoxFile, Names, NamesNone, LeavesTable, NamesInVain}
 use Rattle.box_conf.specs.BoxFile.{FirstFault, Has as HasValues}
 use Rattle.box_conf.specs.Reading.{box_of, described_box, or_names, fault_at}
@@ -55,7 +55,7 @@ no_fault (first ∷ lines) kind number cause x y =
     let bad : None ≡ Some cause = sym none ∙ y.1 in
     absurd (cc)
 
-one_list : (text : List ℕ) (kind : KindWord) → AreLines (rows_of kind) (counted_lines text) → (line : BoxLine)
+pub one_list : (text : List ℕ) (kind : KindWord) → AreLines (rows_of kind) (counted_lines text) → (line : BoxLine)
     (ns ms : List ℕ) → again_of line ≡ false → HasValues kind (counted_lines text) line ns
     → HasValues kind (counted_lines text) line ms → ns ≡ ms
 one_list text kind rows line ns ms once x y = one_setting (rows_of kind) (counted_lines text) 1 (rising text) rows
@@ -156,7 +156,7 @@ one_leaving text x y a b (inr (inr f)) (inr (inr g)) =
     subst (λ (k : KindWord). FirstOfFile (rows_of k) (counted_lines text) (length (lines_of text)) x a) kind f.2 in
     one_of_file (rows_of g.0) (counted_lines text) 1 (length (lines_of text)) (rising text) x y a b first g.2
 
--- Names come in beside the table
+-- Names come in alongside the table
 
 one_in_vain : (text : List ℕ) (x y : ℕ) (a b : LineCause) → NamesInVain text x a → NamesInVain text y b
     → (x ≡ y) × (a ≡ b)
@@ -188,10 +188,10 @@ Answers text (Ok conf) = IsBoxFile text conf
 Answers text (Err fault) = FirstFault text fault.line fault.cause
 
 answers : (text : List ℕ) → Answers text (box_of text)
-answers text = by (described_box text) (names_fault no_names (counted_lines text)) refl (reads_text text)
+answers text = by (described_box text) (fault_of_names (counted_lines text)) refl (reads_text text)
   where
     by_both : (a b : LineFault) (t : Bool) → nat_lt b.line a.line ≡ t
-        → names_fault no_names (counted_lines text) ≡ Some b → LeavesTable text a.line a.cause
+        → fault_of_names (counted_lines text) ≡ Some b → LeavesTable text a.line a.cause
         → Answers text (Err (if t then b else a))
     by_both a b true q e f =
         inr (
@@ -208,7 +208,7 @@ answers text = by (described_box text) (names_fault no_names (counted_lines text
               let low : a.line ≤ b.line = grind (arith, nat_tests) in omega (arith, same.0),
         )
 
-    by : (r : Result BoxConf LineFault) (o : Option LineFault) → names_fault no_names (counted_lines text) ≡ o
+    by : (r : Result BoxConf LineFault) (o : Option LineFault) → fault_of_names (counted_lines text) ≡ o
         → Reads (counted_lines text) (length (lines_of text)) r → Answers text (or_names r o)
     by (Ok conf) None e x = (x, e)
     by (Ok conf) (Some fault) e x = inr (e, λ other why f. absurd (described_or_leaves text conf other why x f))

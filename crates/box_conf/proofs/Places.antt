@@ -68,7 +68,7 @@ takes_none place places (word ∷ words) cause e = by (value_at (grammar_place p
         ∙ ap Some same
     by (Some m) is e = absurd (cc)
 
--- and the places behind it
+-- and the places after it
 form_behind : (place : LinePlace) (places : List LinePlace) (words rest : Words) (n : ℕ) → TakesOne place words rest n
     → form_fault (map grammar_place (place ∷ places)) words ≡ form_fault (map grammar_place places) rest
 form_behind place places words rest n takes =
@@ -107,3 +107,5 @@ one_more place places words rest n more taken read =
     values takes =
         ap (values_in (map grammar_place (place ∷ places))) takes.front
         ∙ ap (λ (o : Option ℕ). unwrap_or o 0 ∷ values_in (map grammar_place places) rest) takes.value
+
+pub ruleset at_each_place = (none_left, word_left, takes_none, later_fault, one_more)

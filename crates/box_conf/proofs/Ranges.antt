@@ -19,7 +19,7 @@ use Rattle.box_conf.specs.Table.{row_of, values_from}
 use Rattle.box_conf.proofs.OneLine.{StepSays, step_says, ValuesSay, values_say}
 use Rattle.box_conf.proofs.WholeFile.{set_or}
 
-within : (low high n : ℕ) → is_within (Number low high) n ≡ true → (low ≤ n) × (n ≤ high)
+pub within : (low high n : ℕ) → is_within (Number low high) n ≡ true → (low ≤ n) × (n ≤ high)
 within low high n e = by (nat_le low n) (nat_le n high) refl refl e
   where
     by : (a b : Bool) → nat_le low n ≡ a → nat_le n high ≡ b → (a && b) ≡ true → (low ≤ n) × (n ≤ high)
@@ -27,7 +27,7 @@ within low high n e = by (nat_le low n) (nat_le n high) refl refl e
     by true false p q e = absurd (cc)
     by false b p q e = absurd (cc)
 
-in_order : (low high : ℕ) → nat_le low high ≡ true → low ≤ high
+pub in_order : (low high : ℕ) → nat_le low high ≡ true → low ≤ high
 in_order low high e = grind (arith, nat_tests)
 
 one_within : (low high : ℕ) (words : List (List ℕ)) (values : List ℕ) → PlacesSay (Number low high ∷ []) words values

@@ -298,7 +298,7 @@ along kind all (line ∷ rest) before s n a = by_step (set_line kind s (words_of
 
 -- The whole text
 
--- behind the first line
+-- after the first line
 begins : (kind : KindWord) (first : Line) (rest : List Line) (n index : ℕ) → Rising n (first ∷ rest)
     → LineSays (box_row ∷ []) (words_of first.1) box_row (index ∷ [])
     → Progress kind (first ∷ rest) no_settings (first.0 + 1) (first ∷ []) rest

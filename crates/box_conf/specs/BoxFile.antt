@@ -6,7 +6,7 @@ use Rattle.plain_text.specs.declared.fault.LineCause.{LineCause}
 use Rattle.plain_text.specs.declared.fault.LineCause.TheVariants.{MissingLine}
 use Rattle.plain_text.specs.Grammar.{AllStand, AreLines, FirstOfFile, LineSays, Sets, line_fault}
 use Rattle.plain_text.specs.Lines.{counted_lines, words_of}
-use Rattle.box_conf.specs.Names.{no_names, named_in, names_fault}
+use Rattle.box_conf.specs.Names.{named_in, fault_of_names}
 use Rattle.box_conf.specs.declared.kind.BoxConf.{BoxConf}
 use Rattle.box_conf.specs.declared.kind.KindWord.{KindWord}
 use Rattle.box_conf.specs.declared.table.BoxLine.{BoxLine}
@@ -39,7 +39,7 @@ IsDescribed text conf = (kind : KindWord) × AreOfKind kind (counted_lines text)
 
 -- a text is the file of this box
 abbrev pub IsBoxFile : List ℕ → BoxConf → Type 0
-IsBoxFile text conf = IsDescribed text conf × (names_fault no_names (counted_lines text) ≡ None)
+IsBoxFile text conf = IsDescribed text conf × (fault_of_names (counted_lines text) ≡ None)
 
 -- the first line has this number and does not name a kind, for this cause
 abbrev pub NamesNone : List (ℕ × List ℕ) → ℕ → LineCause → Type 0
@@ -47,8 +47,8 @@ NamesNone [] number cause = ⊥
 NamesNone (first ∷ lines) number cause =
     (number ≡ first.0) × (line_fault (box_row ∷ []) (words_of first.1) ≡ Some cause)
 
--- there is no line that counts, and it is missed behind the last line; or the first names no kind; or a later one is
--- the first that leaves the table of the kind, or one that has to stand is missed behind the last
+-- there is no line that counts, and it is missed after the last line; or the first names no kind; or a later one is
+-- the first that leaves the table of the kind, or one that has to stand is missed after the last
 abbrev pub LeavesTable : List ℕ → ℕ → LineCause → Type 0
 LeavesTable text number cause =
     ((counted_lines text ≡ []) × (number ≡ length (lines text) + 1) × (cause ≡ MissingLine))
@@ -57,10 +57,10 @@ LeavesTable text number cause =
     × Names (counted_lines text) kind
     × FirstOfFile (rows_of kind) (counted_lines text) (length (lines text)) number cause
 
--- a line is the first that names one too many, or one again
+-- a line is the first that names one too many, or one again, or a static port outside the inside network
 abbrev pub NamesInVain : List ℕ → ℕ → LineCause → Type 0
 NamesInVain text number cause =
-    names_fault no_names (counted_lines text) ≡ Some (record { line = number; cause = cause })
+    fault_of_names (counted_lines text) ≡ Some (record { line = number; cause = cause })
 
 -- the first fault of a text is that of its table or of its names, whichever line comes first
 abbrev pub FirstFault : List ℕ → ℕ → LineCause → Type 0

@@ -57,7 +57,7 @@ lines_of kind.Balancer = Threads ∷ Seed ∷ Shards ∷ Vlan ∷ Virtual ∷ li
 abbrev pub number_of : ℕ → Option ℕ
 number_of number = if number == 0 then None else Some number
 
--- the first word behind `icmp` lets errors through
+-- the first word after `icmp` lets errors through
 abbrev pub nat_from : (BoxLine → Values) → List StaticPort → NatBox
 nat_from values statics =
     nat.with_limit (number_of (values Limit).first)

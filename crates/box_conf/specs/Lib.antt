@@ -4,3 +4,4 @@ pub mod Names
 pub mod Reading
 pub mod Settings
 pub mod Table
+pub mod Stated

@@ -9,7 +9,7 @@ use Rattle.plain_text.specs.declared.fault.LineCause.TheVariants.{UnknownWord, M
 use Rattle.plain_text.specs.declared.fault.LineFault.{LineFault}
 use Rattle.plain_text.specs.Fields.{fields_of}
 use Rattle.plain_text.specs.Lines.{words_of, counted_lines}
-use Rattle.box_conf.specs.Names.{no_names, named_in, names_fault}
+use Rattle.box_conf.specs.Names.{named_in, fault_of_names}
 use Rattle.box_conf.specs.declared.kind.BoxConf.{BoxConf}
 use Rattle.box_conf.specs.declared.kind.KindWord.{KindWord}
 use Rattle.box_conf.specs.declared.names.Named.{Named}
@@ -113,4 +113,4 @@ or_names (Err of_table) (Some of_names) = Err (earlier of_table of_names)
 
 -- the box that a file describes, or its first fault
 abbrev pub box_of : List ℕ → Result BoxConf LineFault
-box_of text = or_names (described_box text) (names_fault no_names (counted_lines text))
+box_of text = or_names (described_box text) (fault_of_names (counted_lines text))

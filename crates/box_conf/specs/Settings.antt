@@ -62,7 +62,7 @@ abbrev pub value_or : LineCause → Option ℕ → List (List ℕ) → Result (�
 value_or cause None words = Err cause
 value_or cause (Some n) words = Ok (n, words)
 
--- the value of the word at a place, and the words behind it
+-- the value of the word at a place, and the words after it
 abbrev pub take_value : LinePlace → List (List ℕ) → Result (ℕ × List (List ℕ)) LineCause
 take_value place [] = Err MissingWord
 take_value place (word ∷ words) =

@@ -38,7 +38,8 @@ const BOX: &[u8] = b"box";
 /// | `backend ADDRESS PORT` | `balancer` | a port of 0 to 65,535 | a fault |
 ///
 /// Of `static` and of `backend` there are at most 64 lines. No backend stands twice, and no two static ports of one
-/// protocol have the same inside endpoint or the same outside port.
+/// protocol have the same inside endpoint or the same outside port. The address of a static port is of the inside
+/// network, else its line is out of range, wherever the line `inside` stands.
 pub fn read_box(text: &[u8]) -> Result<BoxConf, LineFault>
     ensures value { IfOk result (IsBoxFile text.now) }
     ensures threads { IfOk result (λ conf. (1 ≤ conf.threads) × (conf.threads ≤ 16)) }

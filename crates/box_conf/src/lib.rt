@@ -10,4 +10,4 @@ mod table;
 
 pub use conf::read_box;
 pub use kind::{BoxConf, BoxKind};
-pub use laws::a_text_is_one_box_file_or_has_a_fault;
+pub use laws::{a_text_is_one_box_file_or_has_a_fault, lines_are_settings};

@@ -1,7 +1,8 @@
-ghost use Rattle.std.specs.Prelude.{◌≡◌, ◌<◌, ◌≤◌, Some, None, IfOk, IfErr, length};
+ghost use Rattle.std.specs.Prelude.{◌≡◌, ◌<◌, ◌≤◌, Some, None, IfOk, IfErr, IfSome, length};
 ghost use Rattle.std.specs.List.{list_any};
 ghost use Rattle.plain_text.specs.Lines.{counted_lines};
-ghost use Rattle.box_conf.specs.Names.{no_names, name_of, name_cause, names_fault, named_in};
+ghost use Rattle.box_conf.specs.Names.{no_names, name_of, name_cause, fault_of_names, named_in};
+ghost use Rattle.box_conf.specs.Names.{inside_of, inside_in, is_of_network, is_stray};
 ghost use Rattle.box_conf.specs.Names.{has_name, count_of, with_name, is_same, is_in_way};
 ghost use Rattle.box_conf.specs.Names.{backend_from, static_from, protocol_of};
 ghost use Rattle.box_conf.specs.Settings.{IsWithin};
@@ -56,12 +57,14 @@ impl Named {
         }
     }
 
-    /// Why a line may not have this name behind these: there are 64 of its row, or one is in its way.
-    fn refusal(&self, name: Name) -> Option<LineCause>
-        ensures value { result ≡ name_cause self.now (Some name) }
+    /// Why a line may not have this name after these, with the values of the line `inside`: there are 64 of its row, or
+    /// it is a static port outside that network, or one is in its way.
+    fn refusal(&self, inside: Option<Values>, name: Name) -> Option<LineCause>
+        requires { IfSome inside (IsWithin line.Inside) }
+        ensures value { result ≡ name_cause inside self.now (Some name) }
         ensures room { result ≡ None → count_of self.now name < 64 }
     {
-        if self.count(name) >= MOST {
+        if self.count(name) >= MOST || is_stray(inside, name) {
             return Some(LineCause::OutOfRange);
         }
         if self.has(name) {
@@ -81,7 +84,7 @@ impl Named {
         }
     }
 
-    /// Whether one is there that may not stand beside this.
+    /// Whether one is there that may not stand alongside this.
     fn has(&self, name: Name) -> bool
         ensures { result ≡ has_name self.now name }
     {
@@ -127,18 +130,69 @@ fn is_in_way(a: StaticPort, b: StaticPort) -> bool
         && (a.address == b.address && a.port == b.port || a.outside == b.outside)
 }
 
-/// What the lines of a text name, or the first line that names one too many, or one again.
+/// Whether a name is a static port whose address is not of the network of the line `inside`, where there is one.
+fn is_stray(inside: Option<Values>, name: Name) -> bool
+    requires { IfSome inside (IsWithin line.Inside) }
+    ensures { result ≡ is_stray inside name }
+{
+    match (inside, name) {
+        (Some(network), Name::Static(port)) => !is_of_network(network, port.address),
+        (Some(_), Name::Backend(_)) | (None, _) => false,
+    }
+}
+
+/// Whether an address is of the network of a line `inside`: it has the leading bits that all its addresses share.
+fn is_of_network(network: Values, address: u32) -> bool
+    requires { IsWithin line.Inside network }
+    ensures { result ≡ is_of_network network address }
+{
+    let hidden = 32 - network.second as u32;
+    address >> hidden == network.first as u32 >> hidden
+}
+
+/// The values of the first line `inside` that has no fault of its own.
+fn read_inside(text: &[u8]) -> Option<Values>
+    ensures value { result ≡ inside_in (counted_lines text.now) }
+    ensures within { IfSome result (IsWithin line.Inside) }
+{
+    for line in lines(text) {
+        if let Some(inside) = inside_of(words(line.bytes)) {
+            return Some(inside);
+        }
+    }
+    None
+}
+
+/// The values of a line `inside`, if it is one and has no fault of its own.
+fn inside_of(mut words: WordIter<'_>) -> Option<Values>
+    ensures value { result ≡ inside_of words.entry }
+    ensures within { IfSome result (IsWithin line.Inside) }
+{
+    let word = words.next()?;
+    if word == BoxLine::Inside.word() {
+        match read_line(words, BoxLine::Inside, false) {
+            Ok(values) => Some(values),
+            Err(_) => None,
+        }
+    } else {
+        None
+    }
+}
+
+/// What the lines of a text name, or the first line that names one too many, one again, or a static port outside the
+/// inside network.
 pub fn read_names(text: &[u8]) -> Result<Named, LineFault>
     ensures names { IfOk result (λ names. names ≡ named_in (counted_lines text.now)) }
     ensures few { IfOk result (λ names. length names.backends ≤ 64) }
-    ensures none { IfOk result (λ names. names_fault no_names (counted_lines text.now) ≡ None) }
+    ensures none { IfOk result (λ names. fault_of_names (counted_lines text.now) ≡ None) }
     ensures fault { IfErr result (λ fault.
-        names_fault no_names (counted_lines text.now) ≡ Some fault) }
+        fault_of_names (counted_lines text.now) ≡ Some fault) }
 {
+    let inside = read_inside(text);
     let mut names = Named::none();
     for line in lines(text) {
         if let Some(name) = read_name(words(line.bytes)) {
-            match names.refusal(name) {
+            match names.refusal(inside, name) {
                 None => names.add(name),
                 Some(cause) => return Err(fault_at(line.number, cause)),
             }

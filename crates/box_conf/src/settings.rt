@@ -140,7 +140,7 @@ pub struct ReadValues {
 }
 
 /// The values of a line's words, of which each has to have the form that its place asks for.
-#[tactic(auto, using(crate::proofs::Places::none_left, crate::proofs::Places::word_left, crate::proofs::Places::takes_none, crate::proofs::Places::later_fault, crate::proofs::Places::one_more))]
+#[tactic(auto, using(crate::proofs::Places::at_each_place))]
 fn read_places(mut words: WordIter<'_>, places: &[LinePlace]) -> Result<ReadValues, LineCause>
     ensures values { IfOk result (AreRead places.now words.entry) }
     ensures fault { IfErr result (λ cause.

@@ -4,3 +4,4 @@ mod BalancerBytes
 mod NatBytes
 mod TagBytes
 mod CountBytes
+mod Seen
