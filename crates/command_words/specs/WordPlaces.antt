@@ -21,7 +21,8 @@ outputs_of (Chains names) = names.middle ∷ names.released ∷ names.first_sche
 outputs_of (Hands names) = names.released ∷ names.handover ∷ []
 outputs_of (Resumes names) = names.released ∷ names.schedule ∷ []
 
--- among so many words: where the command stands, how many inputs it has, and from where on the words are names of outputs
+-- among so many words: where the command stands, how many names of inputs it has, and from where on the words are names
+-- of outputs
 abbrev pub plain_places : ℕ → Option Asked → Option WatchNames → WordPlaces
 plain_places count (Some command) watched =
     record { start = 0; inputs = length (inputs_of command); outputs_from = count - length (outputs_of command) }
@@ -48,8 +49,8 @@ IsLine words line =
     ((pairs : ℕ) × AsksForTaps words pairs × (line ≡ behind_pairs pairs words))
     ⊎ (IsUntapped words × (line ≡ words))
 
--- the word at this place is the name of a file that is written: of a tap, each of which stands after a word `tap`, or of
--- an output
+-- the word at this place is the name of a file that is written: of a tap, which stands after a word `tap`, or of an
+-- output
 abbrev pub is_written : WordPlaces → ℕ → Bool
 is_written places place =
     (nat_lt place places.start && (place % 2 == 1)) || nat_le places.outputs_from place

@@ -1,5 +1,6 @@
 //! The words of the command line, and what is told of them: what they ask for, which two name one file, the texts of
-//! `--help` and `--version`, the packets that are watched, and what stands on standard error where something is not done.
+//! `--help` and `--version`, the packets that are watched, and what stands on standard error where something is not
+//! done.
 //!
 //! It stands alongside the top call and waits for none of it.
 #![tactic(auto)]

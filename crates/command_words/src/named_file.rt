@@ -18,8 +18,8 @@ pub struct Node {
 pub struct NamedFile {
     /// The file, where it is there.
     pub node: Option<Node>,
-    /// Its path with no link in it, where that can be told: of a file that is there, or that is to be in a folder that is
-    /// there.
+    /// Its path with no link in it, where that can be told: of a file that is there, or that is to be in a folder that
+    /// is there.
     pub path: Option<Text>,
     /// It is the device that keeps nothing of what is written to it, `/dev/null`.
     pub keeps_nothing: bool,

@@ -19,7 +19,10 @@ fn words_after(command: &str) -> (usize, &'static str) {
         "drill" => (5, "BOX CAPTURE EVERY RELEASED SCHEDULE"),
         "trace" => (4, "BOX CAPTURE SCRIPT TABLE"),
         "picture" => (4, "BOX CAPTURE SCRIPT PICTURE"),
-        "chain" => (8, "BOX1 BOX2 CAPTURE SCRIPT MIDDLE RELEASED SCHEDULE1 SCHEDULE2"),
+        "chain" => (
+            8,
+            "BOX1 BOX2 CAPTURE SCRIPT MIDDLE RELEASED SCHEDULE1 SCHEDULE2",
+        ),
         "hand" => (5, "BOX CAPTURE SCRIPT RELEASED HANDOVER"),
         "resume" => (6, "BOX CAPTURE HANDOVER SCRIPT RELEASED SCHEDULE"),
         "tap" => (0, "NAME [tap NAME] .. run .. or live .."),
@@ -69,7 +72,10 @@ fn tell_use<R: AllocGlobal + Files + Eprint>(
 fn first_twice(words: &[Text]) -> Option<&str> {
     for place in 0..words.len() {
         let word = words[place].as_str();
-        if words[place + 1..].iter().any(|other| other.as_str() == word) {
+        if words[place + 1..]
+            .iter()
+            .any(|other| other.as_str() == word)
+        {
             return Some(word);
         }
     }

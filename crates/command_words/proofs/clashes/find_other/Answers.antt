@@ -10,7 +10,7 @@ returns-clause-none g c none other is =
     let words = c.args.words.now in
     let name =
     c.as_str.ensures
-        ∙ get_or_read words c.args.written c.index-words-written.result c.requires c.index-words-written.is [] in (
+    ∙ get_or_read words c.args.written c.index-words-written.result c.requires c.index-words-written.is [] in (
       c.tell_file-file.result,
       subst (λ (n : List ℕ). g.N.Names.may c.args.names.now n c.tell_file-file.result) name c.tell_file-file.ensures,
       by_name other is,
