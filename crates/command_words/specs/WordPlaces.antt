@@ -1,6 +1,6 @@
 -- Which words are names of files: of inputs, which a command reads, and of outputs, which it writes.
-use Rattle.std.specs.Prelude.{◌≡◌, ◌⊎◌, ℕ, ◌+◌, ◌-◌, ◌*◌, ◌%◌, ◌==◌, Bool, ◌&&◌, ◌||◌, nat_lt, nat_le, List, [], ◌∷◌, length}
-use Rattle.std.specs.Prelude.{Option, Some, None}
+use Rattle.std.specs.Prelude.{◌≡◌, ◌⊎◌, ℕ, ◌+◌, ◌-◌, ◌*◌, ◌%◌, ◌==◌, Bool, ◌&&◌, ◌||◌, nat_lt, nat_le, List, []}
+use Rattle.std.specs.Prelude.{◌∷◌, length, Option, Some, None}
 use Rattle.job_commands.specs.Words.{Asked, Runs, Lives, Makes, Plays, Checks, Drills, Traces, Draws, Chains, Hands}
 use Rattle.job_commands.specs.Words.{Resumes, asked, inputs_of}
 use Rattle.packet_taps.specs.Words.{WatchNames, watch_names}
