@@ -11,25 +11,25 @@ const COMMANDS: [&str; 13] = [
     "make", "watch",
 ];
 
-/// How many words stand after a command, and which. After those of taps a whole command stands.
+/// How many words a command has, and which stand after its first. Those of taps may be any number.
 fn words_after(command: &str) -> (usize, &'static str) {
     match command {
-        "run" => (5, "BOX CAPTURE SCRIPT RELEASED SCHEDULE"),
-        "live" => (6, "BOX CAPTURE PLAN RELEASED SCHEDULE SCRIPT"),
-        "drill" => (5, "BOX CAPTURE EVERY RELEASED SCHEDULE"),
-        "trace" => (4, "BOX CAPTURE SCRIPT TABLE"),
-        "picture" => (4, "BOX CAPTURE SCRIPT PICTURE"),
+        "run" => (6, "BOX CAPTURE SCRIPT RELEASED SCHEDULE"),
+        "live" => (7, "BOX CAPTURE PLAN RELEASED SCHEDULE SCRIPT"),
+        "drill" => (6, "BOX CAPTURE EVERY RELEASED SCHEDULE"),
+        "trace" => (5, "BOX CAPTURE SCRIPT TABLE"),
+        "picture" => (5, "BOX CAPTURE SCRIPT PICTURE"),
         "chain" => (
-            8,
+            9,
             "BOX1 BOX2 CAPTURE SCRIPT MIDDLE RELEASED SCHEDULE1 SCHEDULE2",
         ),
-        "hand" => (5, "BOX CAPTURE SCRIPT RELEASED HANDOVER"),
-        "resume" => (6, "BOX CAPTURE HANDOVER SCRIPT RELEASED SCHEDULE"),
+        "hand" => (6, "BOX CAPTURE SCRIPT RELEASED HANDOVER"),
+        "resume" => (7, "BOX CAPTURE HANDOVER SCRIPT RELEASED SCHEDULE"),
         "tap" => (0, "NAME [tap NAME] .. run .. or live .."),
-        "play" => (4, "BOX CAPTURE SCHEDULE OUT"),
-        "check" => (4, "BOX CAPTURE SCHEDULE RELEASED"),
-        "make" => (3, "SEED N CAPTURE"),
-        _ => (3, "CAPTURE SKIP QUOTA"),
+        "play" => (5, "BOX CAPTURE SCHEDULE OUT"),
+        "check" => (5, "BOX CAPTURE SCHEDULE RELEASED"),
+        "make" => (4, "SEED N CAPTURE"),
+        _ => (4, "CAPTURE SKIP QUOTA"),
     }
 }
 
@@ -61,7 +61,7 @@ fn tell_use<R: AllocGlobal + Files + Eprint>(
 ) -> io::Result<()> {
     let (count, rest) = words_after(command);
     match first_twice(words) {
-        Some(again) if words.len() == count + 1 => {
+        Some(again) if words.len() == count => {
             eprintln!(rt; "usage: ftmb {command} {rest}; {again} stands twice")
         }
         _ => eprintln!(rt; "usage: ftmb {command} {rest}"),
