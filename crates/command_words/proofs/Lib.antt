@@ -1,1 +1,2 @@
+pub mod Untapped
 pub mod WatchedWords

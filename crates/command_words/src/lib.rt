@@ -1,18 +1,24 @@
 //! The words of the command line, and what is told of them: what they ask for, which two name one file, the texts of
-//! `--help` and `--version`, the packets that are watched, and what stands on standard error where something is not done.
+//! `--help` and `--version`, the packets that are watched, and what stands on standard error where something is not
+//! done.
 //!
 //! It stands alongside the top call and waits for none of it.
 #![tactic(auto)]
 
-mod names;
+mod clashes;
+mod faults;
+mod named_file;
 mod request;
+mod system_files;
 mod telling;
 mod usage;
 mod watching;
+mod word_places;
 mod words;
 
+pub use clashes::{Clash, OtherName, one_file};
 pub use job_commands::{Status, StatusText};
-pub use names::one_file;
+pub use named_file::{NamedFile, Names, Node};
 pub use request::{Request, read_request};
 pub use telling::tell_more;
 pub use usage::{help, version};

@@ -11,12 +11,9 @@ const LINK_TYPE: usize = 20;
 /// Tells what a file is that begins as no capture does, which link type one has, or where it ends.
 pub fn tell_pcap<R: AllocGlobal + Files + Eprint>(
     rt: &R,
-    name: Option<&Text>,
+    name: &Text,
     fault: CaptureFault,
 ) -> io::Result<()> {
-    let Some(name) = name else {
-        return Ok(());
-    };
     let Some(bytes) = read_again(rt, name) else {
         return Ok(());
     };
@@ -42,12 +39,9 @@ pub fn tell_pcap<R: AllocGlobal + Files + Eprint>(
 /// Tells which link type a pcapng capture has, or where it ends.
 pub fn tell_pcapng<R: AllocGlobal + Files + Eprint>(
     rt: &R,
-    name: Option<&Text>,
+    name: &Text,
     fault: NgFault,
 ) -> io::Result<()> {
-    let Some(name) = name else {
-        return Ok(());
-    };
     let Some(bytes) = read_again(rt, name) else {
         return Ok(());
     };

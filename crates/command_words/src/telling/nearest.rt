@@ -11,22 +11,25 @@ const COMMANDS: [&str; 13] = [
     "make", "watch",
 ];
 
-/// What stands behind a command.
-fn words_behind(command: &str) -> &'static str {
+/// How many words a command has, and which stand after its first. Those of taps may be any number.
+fn words_after(command: &str) -> (usize, &'static str) {
     match command {
-        "run" => "BOX CAPTURE SCRIPT RELEASED SCHEDULE",
-        "live" => "BOX CAPTURE PLAN RELEASED SCHEDULE SCRIPT",
-        "drill" => "BOX CAPTURE EVERY RELEASED SCHEDULE",
-        "trace" => "BOX CAPTURE SCRIPT TABLE",
-        "picture" => "BOX CAPTURE SCRIPT PICTURE",
-        "chain" => "BOX1 BOX2 CAPTURE SCRIPT MIDDLE RELEASED SCHEDULE1 SCHEDULE2",
-        "hand" => "BOX CAPTURE SCRIPT RELEASED HANDOVER",
-        "resume" => "BOX CAPTURE HANDOVER SCRIPT RELEASED SCHEDULE",
-        "tap" => "NAME [tap NAME] .. run .. or live ..",
-        "play" => "BOX CAPTURE SCHEDULE OUT",
-        "check" => "BOX CAPTURE SCHEDULE RELEASED",
-        "make" => "SEED N CAPTURE",
-        _ => "CAPTURE SKIP QUOTA",
+        "run" => (6, "BOX CAPTURE SCRIPT RELEASED SCHEDULE"),
+        "live" => (7, "BOX CAPTURE PLAN RELEASED SCHEDULE SCRIPT"),
+        "drill" => (6, "BOX CAPTURE EVERY RELEASED SCHEDULE"),
+        "trace" => (5, "BOX CAPTURE SCRIPT TABLE"),
+        "picture" => (5, "BOX CAPTURE SCRIPT PICTURE"),
+        "chain" => (
+            9,
+            "BOX1 BOX2 CAPTURE SCRIPT MIDDLE RELEASED SCHEDULE1 SCHEDULE2",
+        ),
+        "hand" => (6, "BOX CAPTURE SCRIPT RELEASED HANDOVER"),
+        "resume" => (7, "BOX CAPTURE HANDOVER SCRIPT RELEASED SCHEDULE"),
+        "tap" => (0, "NAME [tap NAME] .. run .. or live .."),
+        "play" => (5, "BOX CAPTURE SCHEDULE OUT"),
+        "check" => (5, "BOX CAPTURE SCHEDULE RELEASED"),
+        "make" => (4, "SEED N CAPTURE"),
+        _ => (4, "CAPTURE SKIP QUOTA"),
     }
 }
 
@@ -38,21 +41,49 @@ pub fn tell_usage<R: AllocGlobal + Files + Eprint>(rt: &R, words: &[Text]) -> io
     let word = word.as_str();
     for command in COMMANDS {
         if command == word {
-            let rest = words_behind(word);
-            return eprintln!(rt; "usage: ftmb {word} {rest}");
+            return tell_use(rt, words, word);
         }
     }
     for command in COMMANDS {
         if is_near(word.as_bytes(), command.as_bytes()) {
-            let rest = words_behind(command);
+            let (_, rest) = words_after(command);
             return eprintln!(rt; "no command {word}; usage: ftmb {command} {rest}");
         }
     }
     eprintln!(rt; "no command {word}; ftmb --help tells the commands")
 }
 
+/// Tells how a command is called; and which word stands twice, where its words are as many as they are to be.
+fn tell_use<R: AllocGlobal + Files + Eprint>(
+    rt: &R,
+    words: &[Text],
+    command: &str,
+) -> io::Result<()> {
+    let (count, rest) = words_after(command);
+    match first_twice(words) {
+        Some(again) if words.len() == count => {
+            eprintln!(rt; "usage: ftmb {command} {rest}; {again} stands twice")
+        }
+        _ => eprintln!(rt; "usage: ftmb {command} {rest}"),
+    }
+}
+
+/// The first word that stands twice.
+fn first_twice(words: &[Text]) -> Option<&str> {
+    for place in 0..words.len() {
+        let word = words[place].as_str();
+        if words[place + 1..]
+            .iter()
+            .any(|other| other.as_str() == word)
+        {
+            return Some(word);
+        }
+    }
+    None
+}
+
 /// Whether one word becomes the other where one letter is left out, put in or changed, or two that
-/// stand beside each other are exchanged.
+/// stand next to each other are exchanged.
 fn is_near(one: &[u8], other: &[u8]) -> bool {
     if one.len() > LONGEST {
         return false;
@@ -77,7 +108,7 @@ fn is_near(one: &[u8], other: &[u8]) -> bool {
     }
 }
 
-/// Whether the letters `a` and `b`, and those behind them, are two exchanged ones and then the same.
+/// Whether the letters `a` and `b`, and those after them, are two exchanged ones and then the same.
 fn is_exchange(a: u8, b: u8, one: &[u8], other: &[u8]) -> bool {
     match (one, other) {
         ([second, one @ ..], [first, other @ ..]) => { *first == a && *second == b && one == other }

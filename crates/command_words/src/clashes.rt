@@ -1,0 +1,106 @@
+ghost use Rattle.std.specs.Prelude.{◌≡◌, ◌<◌, ℕ, IfSome, None, true, false, length};
+ghost use Rattle.command_words.specs.Clashes.{Clashes, IsOther, MayBeOne, MayTell, NoneClash, name_of};
+ghost use Rattle.command_words.specs.Clashes.{word_at};
+ghost use Rattle.command_words.specs.declared.clashes.OtherName.{OtherName};
+
+use crate::named_file::{NamedFile, Names, are_one};
+use crate::word_places::{WordPlaces, read_places};
+use plain_text::Text;
+
+/// A name that is not to be that of a file which is written.
+#[derive(Clone, Copy)]
+pub enum OtherName {
+    /// The word at this place.
+    Word(usize),
+    /// The file that standard output goes to.
+    Output,
+    /// The file that standard error goes to.
+    Errors,
+}
+
+/// Two names of one file, of which one is to be written.
+#[derive(Clone, Copy)]
+pub struct Clash {
+    /// The place of the word that is the name of an output or of a tap.
+    pub written: usize,
+    /// The other name.
+    pub other: OtherName,
+}
+
+/// A name of an output or of a tap whose file has another name, too: that of a further file of the command, of standard
+/// output, or of standard error. None where there is no such name.
+///
+/// Which names are of one file, `names` tells; the device that keeps nothing may have any number of names. A file that
+/// is not there yet, in a folder that can't be told, is not seen.
+pub fn one_file<N: Names>(names: &N, words: &[Text]) -> Option<Clash>
+    ensures found { IfSome result (Clashes (N.may names.now) words.now) }
+    ensures none { result ≡ None → NoneClash (N.may names.now) words.now }
+{
+    let places = read_places(words);
+    for written in 0..words.len() {
+        if places.is_written(written) {
+            if let Some(other) = find_other(names, words, places, written) {
+                return Some(Clash { written, other });
+            }
+        }
+    }
+    None
+}
+
+/// Another name of the file that the word at this place names.
+fn find_other<N: Names>(
+    names: &N,
+    words: &[Text],
+    places: WordPlaces,
+    written: usize,
+) -> Option<OtherName>
+    requires { written < length words.now }
+    ensures found { IfSome result (λ other. IsOther words.now places written other
+        × MayTell (N.may names.now) (word_at words.now written) (name_of words.now other) true) }
+    ensures none { result ≡ None → (other : OtherName) → IsOther words.now places written other
+        → MayTell (N.may names.now) (word_at words.now written) (name_of words.now other) false }
+{
+    let file = names.tell_file(words[written].as_str());
+    if let Some(place) = find_word(names, words, places, written, &file) {
+        return Some(OtherName::Word(place));
+    }
+    if is_name_of(names, &file, "/dev/stdout") {
+        return Some(OtherName::Output);
+    }
+    if is_name_of(names, &file, "/dev/stderr") {
+        return Some(OtherName::Errors);
+    }
+    None
+}
+
+/// The place of another word that names this file.
+fn find_word<N: Names>(
+    names: &N,
+    words: &[Text],
+    places: WordPlaces,
+    written: usize,
+    file: &NamedFile,
+) -> Option<usize>
+    ensures found { IfSome result (λ place. IsOther words.now places written (OtherName.Word place)
+        × MayBeOne (N.may names.now) file.now (word_at words.now place) true) }
+    ensures none { result ≡ None → (place : ℕ)
+        → IsOther words.now places written (OtherName.Word place)
+        → MayBeOne (N.may names.now) file.now (word_at words.now place) false }
+{
+    for place in 0..words.len() {
+        if place != written
+            && places.is_file(place)
+            && is_name_of(names, file, words[place].as_str())
+        {
+            return Some(place);
+        }
+    }
+    None
+}
+
+/// Whether this is a name of the file.
+fn is_name_of<N: Names>(names: &N, file: &NamedFile, name: &str) -> bool
+    ensures { MayBeOne (N.may names.now) file.now name.now result }
+{
+    are_one(file, &names.tell_file(name))
+}
