@@ -15,5 +15,5 @@ pub use command_words::{
     watch_words,
 };
 pub use ending::exit_of;
-pub use program::run_program;
-pub use running::run_words;
+pub use program::{Ended, run_arguments, run_program};
+pub use running::{Ran, RealTap, run_words};

@@ -12,16 +12,19 @@
 //! All other lines are for whoever reads the session.
 #![tactic(auto)]
 
-use command_line::{StatusText, read_words, run_words};
+use command_line::{StatusText, one_file, read_words, run_words};
 use std::alloc::{AllocError, Global};
 use std::env::Args;
 use std::rt::Files;
 use std::sync::Wait;
 use std::thread::Threads;
 use std::{env, fs, io};
+use plain_text::Text;
+use job_commands::Status;
 use var_locks::OpenGate;
 use world_io::FixedClock;
-use world_real::Silence;
+use world_real::{RealWorld, Silence};
+use world_told::Told;
 
 /// What the clock answers in each session, in microseconds.
 const TIME: u64 = 100_000_006;
@@ -35,6 +38,19 @@ fn arguments(alloc: Global, words: &str) -> Result<Args, AllocError> {
     Ok(arguments.into_iter())
 }
 
+/// Performs the words over the files of the system.
+fn perform_words<R: AllocGlobal + Files + Print + Threads + Wait + Sync>(
+    rt: &R,
+    words: &[Text],
+) -> Status {
+    if one_file(rt, words).is_some() {
+        return Status::BadWords;
+    }
+    let world = Told::of(RealWorld::new(rt.alloc(), rt, Silence));
+    let out = Told::of(RealWorld::new(rt.alloc(), rt, Silence));
+    run_words(rt, words, world, out, &FixedClock(TIME), &OpenGate).status
+}
+
 /// Performs a command, and prints the number and the text of the status that the program ends with.
 fn run<R: AllocGlobal + Files + Print + Threads + Wait + Sync>(
     rt: &R,
@@ -42,7 +58,7 @@ fn run<R: AllocGlobal + Files + Print + Threads + Wait + Sync>(
 ) -> io::Result<()> {
     let arguments = arguments(rt.alloc(), words)?;
     let status = match read_words(rt.alloc(), Ok(arguments)) {
-        Ok(words) => run_words(rt, words.as_slice(), &FixedClock(TIME), &OpenGate, Silence),
+        Ok(words) => perform_words(rt, words.as_slice()),
         Err(status) => status,
     };
     let number = status.exit_code();

@@ -78,3 +78,13 @@ pub enough : (words : List (List ℕ)) (pairs : ℕ) → AsksForTaps words pairs
 enough words pairs asks =
     let long = (first_of_run (behind_pairs pairs words) asks.run).1 in
     omega (arith, long, length-drop (2 * pairs) words)
+
+-- words ask for one number of taps
+pub one_count : (words : List (List ℕ)) (a b : ℕ) → AsksForTaps words a → AsksForTaps words b → a ≡ b
+one_count words a b asks also =
+    let not_fewer : (c d : ℕ) → AsksForTaps words c → AsksForTaps words d → c < d → ⊥ =
+    λ c d asked more less.
+        (first_of_run (behind_pairs c words) asked.run).0 (at_front (2 * c) words ∙ more.taps c less) in
+    let below = not_fewer a b asks also in
+    let above = not_fewer b a also asks in
+    omega (arith, below, above)

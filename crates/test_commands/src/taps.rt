@@ -86,7 +86,8 @@ fn run_with_taps<R: AllocGlobal + Threads + Wait + Sync>(
     let words = words.as_slice();
     match split_taps(words) {
         Split::Taps { pairs, .. } if pairs == taps.len() => {
-            let run = tapped(rt, words, world, taps, &FixedClock(0), &OpenGate)?;
+            let run = tapped(rt, words, world, taps, &FixedClock(0), &OpenGate)
+                .map_err(|_| NoMemory)?;
             Ok(Some(run))
         }
         _ => Ok(None),

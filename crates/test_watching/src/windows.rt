@@ -134,7 +134,7 @@ fn printed(alloc: Global, second_fails: bool) -> Result<Printed, NoMemory> {
     if second_fails {
         out.fail_write(2)?;
     }
-    Ok(print_watched(alloc, words.as_slice(), &mut world, out))
+    Ok(print_watched(alloc, words.as_slice(), &mut world, out).printed)
 }
 
 #[test]

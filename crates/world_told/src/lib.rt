@@ -11,8 +11,11 @@
 
 mod laws;
 mod record;
+mod tapping;
 mod told;
+mod told_tap;
 
 pub use laws::some_beginning;
 pub use record::Call;
 pub use told::Told;
+pub use told_tap::ToldTap;

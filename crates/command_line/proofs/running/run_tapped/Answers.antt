@@ -1,0 +1,20 @@
+use Rattle.std.proofs.Common.{◌≡◌, ◌∙◌, ℕ, inr, subst}
+use Rattle.release_taps.specs.Mirrored.{IsMirroring}
+use Rattle.release_taps.specs.Split.{released_name}
+use Rattle.world_told.specs.Sent.{name_of, sent_to}
+use Rattle.command_line.proofs.Named.{named-seats}
+use Rattle.command_line.proofs.running.run_tapped.Goals as goal
+
+pub returns-in-Ok-tapped-clause-mirrors : goal.returns-in-Ok-tapped-clause-mirrors
+returns-in-Ok-tapped-clause-mirrors g c =
+    let run = c.in-Ok-tapped.ensures in
+    let rest = c.in-Ok-tapped.run'.rest in
+    inr (record {
+      count = run.seats ∙ c.in-Ok.ensures.count;
+      named = named-seats (λ t. name_of t.file t.world.calls) c.args.words.now c.in-Ok.taps.items rest.seats.items
+          run.labels c.in-Ok.ensures.named;
+      mirrored = rest.mirrored;
+      mirrors = subst (λ (n : ℕ). IsMirroring g.W.World.honest g.W.World.shows g.W.World.ledger
+          (λ t. (t.faults ≡ 0) × (t.lacks ≡ 0)) (λ t. sent_to t.file t.world.calls) (λ t. t.faults) (λ t. t.lacks)
+          (released_name n c.args.words.now) rest.mirrored rest.world rest.seats.items) c.in-Ok.ensures.count run.mirrors;
+    })
