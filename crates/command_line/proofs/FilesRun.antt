@@ -1,5 +1,5 @@
 -- A run over a world with a record of its calls, of which none was made before.
-use Rattle.std.proofs.Common.{◌≡◌, ◌⊎◌, ℕ, List, [], Option, Some, None, Result, Ok, Err, ap, subst, ◌∙◌, inl, inr}
+use Rattle.std.proofs.Common.{◌≡◌, ◌⊎◌, ℕ, List, [], Option, Some, None, Result, Ok, Err, ap, subst, sym, ◌∙◌, inl, inr}
 use Rattle.std.specs.Prelude.{IfOk, IfErr, IfSome}
 use Rattle.plain_text.specs.declared.packet.Packet.{Packet}
 use Rattle.packet_taps.specs.declared.command.Watched.{Watched}
@@ -11,35 +11,43 @@ use Rattle.world_io.specs.World.{Ledger, Start}
 use Rattle.world_told.specs.Events.{Event, WithCalls, shown_after}
 use Rattle.world_told.specs.Honest.{IsHonest}
 use Rattle.job_commands.specs.declared.status.Status.{Status}
-use Rattle.job_commands.specs.declared.status.Status.TheVariants.{BadWords, NoMemory}
+use Rattle.job_commands.specs.declared.status.Status.TheVariants.{NoMemory}
 use Rattle.job_top.specs.Answers.{Answers, AnswersBytes}
 use Rattle.release_taps.specs.Split.{AsksForTaps, behind_pairs}
 use Rattle.command_line.specs.Running.{AskedNothing, AsksToWatch, IsNotBegun, PrintsFiles, Runs, RunsFiles}
 use Rattle.command_words.specs.Watching.{PrintsLines, Watches}
 use Rattle.command_line.specs.Performing.{Performs}
 
+pub not_begun : {W X : Type 0} (faults : X → ℕ) (refused : Option X) (status : Status) (old new : WithCalls W)
+    (Other : Type 0) → old.calls ≡ [] → IsNotBegun faults refused status old new ⊎ Other
+    → IsNotBegun faults refused status [] new.calls ⊎ Other
+not_begun {W} faults refused status old new Other none (inl not) =
+    inl (record { cause = not.cause; same = ap (λ (t : WithCalls W). t.calls) not.same ∙ none })
+not_begun faults refused status old new Other none (inr other) = inr other
+
 -- what such a run promises of the record
-pub runs_files : {W : Type 0} (ledger : W → Ledger) (may : ℕ → Type 0) (words : List (List ℕ)) (status : Status)
-    (old new : WithCalls W) → old.calls ≡ []
+pub runs_files : {W X : Type 0} (ledger : W → Ledger) (may : ℕ → Type 0) (faults : X → ℕ) (refused : Option X)
+    (words : List (List ℕ)) (status : Status) (old new : WithCalls W) (printed : Ledger) → old.calls ≡ []
     → Runs {W = WithCalls W} (λ p t. IsHonest p t.calls) (λ p t. shown_after p t.calls) (λ t. ledger t.world) (λ _. ⊥)
-    may words status old new → RunsFiles may words status new.calls
-runs_files {W} ledger may words status old new none runs = record {
+    may faults refused words status old new printed → RunsFiles may faults refused words status new.calls
+runs_files {W} ledger may faults refused words status old new printed none runs = record {
+  bad_words = runs.bad_words;
   nothing_asked = λ bad. ap (λ (t : WithCalls W). t.calls) (runs.nothing_asked bad) ∙ none;
   performs = λ plain p h.
       subst (λ (calls : List Event). Performs ⊥ may words status (shown_after p calls) (shown_after p new.calls)) none
-      (runs.performs plain p h);
+      ((runs.performs plain).bytes p h);
   watches = λ watch p h.
-      subst (λ (calls : List Event). Watches ⊥ words status (shown_after p calls)) none (runs.watches watch p h);
+      subst (λ (calls : List Event). Watches ⊥ words status (shown_after p calls)) none ((runs.watches watch).bytes p h);
   taps = λ pairs asks. tapped pairs (runs.taps pairs asks);
 }
   where
-    tapped : (pairs : ℕ) → IsNotBegun status old new
+    tapped : (pairs : ℕ) → IsNotBegun faults refused status old new
         ⊎ Answers {W = WithCalls W} (λ p t. IsHonest p t.calls) (λ p t. shown_after p t.calls) (λ t. ledger t.world)
         (λ _. ⊥) may (behind_pairs pairs words) status old new
-        → AskedNothing status new.calls ⊎ ((p : Start) → IsHonest p new.calls
+        → IsNotBegun faults refused status [] new.calls ⊎ ((p : Start) → IsHonest p new.calls
         → AnswersBytes ⊥ may (behind_pairs pairs words) status (shown_after p []) (shown_after p new.calls))
     tapped pairs (inl not) =
-        inl (record { cause = not.cause; none = ap (λ (t : WithCalls W). t.calls) not.same ∙ none })
+        inl (record { cause = not.cause; same = ap (λ (t : WithCalls W). t.calls) not.same ∙ none })
     tapped pairs (inr answers) = inr (λ p h.
         subst (λ (calls : List Event). AnswersBytes ⊥ may (behind_pairs pairs words) status (shown_after p calls)
         (shown_after p new.calls)) none (answers.bytes p h))
@@ -82,41 +90,34 @@ prints_files {W} {V} words status old new out printed none none_out prints nothi
       first = window.first;
     }
 
-pub not_begun : {W : Type 0} (status : Status) (old new : WithCalls W) (Other : Type 0) → old.calls ≡ []
-    → IsNotBegun status old new ⊎ Other → AskedNothing status new.calls ⊎ Other
-not_begun {W} status old new Other none (inl not) =
-    inl (record { cause = not.cause; none = ap (λ (t : WithCalls W). t.calls) not.same ∙ none })
-not_begun status old new Other none (inr other) = inr other
-
 -- From the arguments to the words
 
-pub with_words : {A E : Type 0} (arguments : Result A E) (of : A → List (List ℕ)) (words : List (List ℕ))
-    (asked : Type 0) (Ran : List (List ℕ) → Type 0) → IfOk arguments (λ all. words ≡ of all) → Ran words
-    → IfOk arguments (λ all. asked ⊎ Ran (of all))
-with_words (Ok all) of words asked Ran is ran = inr (subst Ran is ran)
-with_words (Err error) of words asked Ran is ran = tt
+module _ {A E : Type 0} (arguments : Result A E) (of : A → List (List ℕ)) (words : List (List ℕ))
+    (is : IfOk arguments (λ all. words ≡ of all)) (Asked Ran : List (List ℕ) → Type 0) where
+  pub with_words : Ran words → IfOk arguments (λ all. Asked (of all) ⊎ Ran (of all))
+  with_words ran = go arguments is
+    where
+      go : (given : Result A E) → IfOk given (λ all. words ≡ of all) → IfOk given (λ all. Asked (of all) ⊎ Ran (of all))
+      go (Ok all) same = inr (subst Ran same ran)
+      go (Err error) same = tt
 
-pub asked_nothing : {A E : Type 0} (arguments : Result A E) (status : Status) (calls : List Event) (Ran : A → Type 0)
-    → AskedNothing status calls → IfOk arguments (λ all. AskedNothing status calls ⊎ Ran all)
-asked_nothing (Ok all) status calls Ran nothing = inl nothing
-asked_nothing (Err error) status calls Ran nothing = tt
+  pub asked_only : Asked words → IfOk arguments (λ all. Asked (of all) ⊎ Ran (of all))
+  asked_only asked = go arguments is
+    where
+      go : (given : Result A E) → IfOk given (λ all. words ≡ of all) → IfOk given (λ all. Asked (of all) ⊎ Ran (of all))
+      go (Ok all) same = inl (subst Asked same asked)
+      go (Err error) same = tt
 
-pub nothing_read : {A E : Type 0} (arguments : Result A E) (Asked : Type 0) → Asked
-    → IfErr arguments (λ error. Asked)
-nothing_read (Ok all) Asked nothing = tt
-nothing_read (Err error) Asked nothing = nothing
+pub no_memory : {A E : Type 0} (arguments : Result A E) (of : A → List (List ℕ)) (same : Option (ℕ × ℕ))
+    (status : Status) (calls : List Event) (Ran : A → Type 0) → calls ≡ [] → IfOk arguments (λ all. status ≡ NoMemory)
+    → IfOk arguments (λ all. AskedNothing same (of all) status calls ⊎ Ran all)
+no_memory (Ok all) of same status calls Ran none is = inl (record { cause = inl is; none = none })
+no_memory (Err error) of same status calls Ran none is = tt
 
-pub no_memory : {A E : Type 0} (arguments : Result A E) (status : Status) (calls : List Event) (Ran : A → Type 0)
-    → calls ≡ [] → IfOk arguments (λ all. status ≡ NoMemory)
-    → IfOk arguments (λ all. AskedNothing status calls ⊎ Ran all)
-no_memory (Ok all) status calls Ran none is = inl (record { cause = inr (inr is); none = none })
-no_memory (Err error) status calls Ran none is = tt
-
-pub not_read : {A E : Type 0} (arguments : Result A E) (status : Status) (calls : List Event) → calls ≡ []
-    → (status ≡ BadWords) ⊎ (status ≡ NoMemory) → IfErr arguments (λ error. AskedNothing status calls)
-not_read (Ok all) status calls none is = tt
-not_read (Err error) status calls none (inl is) = record { cause = inl is; none = none }
-not_read (Err error) status calls none (inr is) = record { cause = inr (inr is); none = none }
+pub not_read : {A E : Type 0} (arguments : Result A E) (Said : E → Type 0) (Also : Type 0) → Also
+    → IfErr arguments Said → IfErr arguments (λ error. Said error × Also)
+not_read (Ok all) Said Also none said = tt
+not_read (Err error) Said Also none said = (said, none)
 
 pub read : {A E : Type 0} (arguments : Result A E) (Asked : E → Type 0) → IfErr arguments (λ error. ⊥)
     → IfErr arguments Asked

@@ -1,16 +1,19 @@
-ghost use Rattle.std.specs.Prelude.{◌≡◌, ◌≤◌, ◌⊎◌, ℕ, [], IfErr, IfOk};
+ghost use Rattle.std.specs.Prelude.{◌≡◌, ◌<◌, ◌≤◌, ◌⊎◌, ℕ, [], IfErr, IfOk};
+ghost use Rattle.std.specs.IoError.{error_kind};
 ghost use Rattle.std.specs.Process.{exit_status};
-ghost use Rattle.command_line.specs.Running.{AskedNothing, EndsWith, PrintsFiles, RunsFiles, TapsMirror};
+ghost use Rattle.command_line.specs.Running.{AskedNothing, EndsWith, HasRefused, IsNotBegun};
+ghost use Rattle.command_line.specs.Running.{PrintsFiles, RunsFiles, TapsMirror};
+ghost use Rattle.command_words.specs.Words.{Refuses, words_of};
 ghost use Rattle.release_taps.specs.Split.{AsksForTaps};
 ghost use Rattle.world_real.specs.Real.{real_ledger};
 ghost use Rattle.world_told.specs.Events.{shown_after};
 ghost use Rattle.world_told.specs.Honest.{IsHonest};
 ghost use Rattle.world_told.specs.Sent.{name_of, sent_to};
-ghost use Rattle.command_words.specs.Words.{words_of};
 
-use crate::{RealTap, exit_of, run_words};
+use crate::{RealTap, SilentWorld, exit_of, run_words};
 use command_words::{one_file, read_words, tell_more};
 use job_commands::{Status, StatusText};
+use plain_text::Text;
 use release_taps::Seat;
 use std::env::{self, Args};
 use std::io;
@@ -24,18 +27,26 @@ use world_io::Clock;
 use world_real::{ProgressLine, RealClock, RealWorld, Silence};
 use world_told::Told;
 
-/// Takes away what stands in the line behind the cursor (ECMA-48, "erase in line").
+/// Takes away what stands in the line after the cursor (ECMA-48, "erase in line").
 const CLEAR_LINE: &str = "\x1b[K";
 
-/// What the program comes to: the number that it ends with, the status of its run, its files with the record of
-/// their calls, and standard output with that of what the lines of a watched capture were printed by.
+/// What the program comes to.
 #[derive(Drop)]
-pub struct Ended<W, V, T> {
+pub struct Ended<W, V, T, X> {
+    /// The number that it ends with.
     pub code: ExitCode,
     pub status: Status,
+    /// The files, with the record of their calls.
     pub world: W,
+    /// Standard output, on which the lines of a watched capture were printed, with such a record.
     pub out: V,
+    /// The taps, each in its seat; none where the run was not begun.
     pub taps: Vec<Seat<T>>,
+    /// The files in which the one of a tap could not be created, which have counted a fault.
+    pub refused: Option<X>,
+    /// Two places of words that name one file, of which the second was to be written: what
+    /// `one_file` found.
+    pub same: Option<(usize, usize)>,
 }
 
 /// The program: does what its arguments ask for over the files of the system, by its clock and on
@@ -70,6 +81,9 @@ pub fn run_program<
 ///
 /// The world of the files has a record of its calls. So what is promised by a beginning holds of the program: whatever
 /// bytes stood under the names when it began, if the system answered its reads as files with those bytes do.
+///
+/// It ends with `BadWords` where the arguments ask for nothing that it does, are no text, or name one file twice; with
+/// `ReadFault` and `WriteFault` where a world counted a fault; and with `NoMemory` where memory ran out.
 pub fn run_arguments<
     'a,
     R: AllocGlobal + Files + Print + Eprint + Threads + Wait + Sync,
@@ -82,22 +96,35 @@ pub fn run_arguments<
     errors: &'a E,
 ) -> Ended<
     Told<RealWorld<&'a R, ProgressLine<'a, C, E>>>,
-    Told<RealWorld<&'a R, Silence>>,
+    Told<SilentWorld<'a, R>>,
     RealTap<'a, R>,
+    SilentWorld<'a, R>,
 >
     ensures number { EndsWith result.status (exit_status result.code) }
-    ensures runs { IfOk arguments (λ all. AskedNothing result.status result.world.calls
-        ⊎ RunsFiles (C.may clock.now) (words_of all) result.status result.world.calls) }
-    ensures prints { IfOk arguments (λ all. AskedNothing result.status result.world.calls
+    ensures runs { IfOk arguments (λ all.
+        AskedNothing result.same (words_of all) result.status result.world.calls
+        ⊎ RunsFiles (C.may clock.now) (λ w. (real_ledger w).write_faults) result.refused
+        (words_of all) result.status result.world.calls) }
+    ensures prints { IfOk arguments (λ all.
+        AskedNothing result.same (words_of all) result.status result.world.calls
         ⊎ PrintsFiles (words_of all) result.status result.world.calls result.out.calls) }
-    ensures mirrors { IfOk arguments (λ all. AskedNothing result.status result.world.calls
+    ensures mirrors { IfOk arguments (λ all.
+        AskedNothing result.same (words_of all) result.status result.world.calls
         ⊎ ((pairs : ℕ) → AsksForTaps (words_of all) pairs
-        → AskedNothing result.status result.world.calls ⊎ TapsMirror (λ p t. IsHonest p t.calls)
+        → IsNotBegun (λ w. (real_ledger w).write_faults) result.refused result.status
+        [] result.world.calls ⊎ TapsMirror (λ p t. IsHonest p t.calls)
         (λ p t. shown_after p t.calls) (λ t. real_ledger t.world)
         (λ t. (t.faults ≡ 0) × (t.lacks ≡ 0)) (λ t. sent_to t.file t.world.calls)
         (λ t. t.faults) (λ t. t.lacks) (λ t. name_of t.file t.world.calls)
         (words_of all) pairs result.world result.taps.items)) }
-    ensures no_words { IfErr arguments (λ _. AskedNothing result.status result.world.calls) }
+    ensures no_words { IfErr arguments (λ error.
+        Refuses (error_kind error) result.status × (result.world.calls ≡ [])) }
+    ensures read_fault { result.status ≡ Status.ReadFault
+        → 0 < (real_ledger result.world.world).read_faults }
+    ensures write_fault { result.status ≡ Status.WriteFault
+        → (0 < (real_ledger result.world.world).write_faults)
+        ⊎ ((0 < (real_ledger result.out.world).write_faults)
+        ⊎ HasRefused (λ w. (real_ledger w).write_faults) result.refused) }
 {
     let line = ProgressLine::new(clock, errors);
     let world = Told::of(RealWorld::new(rt.alloc(), rt, line));
@@ -111,11 +138,13 @@ pub fn run_arguments<
                 world,
                 out,
                 taps: Vec::new(rt.alloc()),
+                refused: None,
+                same: None,
             };
         }
     };
     let texts = words.as_slice();
-    if one_file(rt, texts).is_some() {
+    if let Some(places) = one_file(rt, texts) {
         end_line(errors);
         return Ended {
             code: end_more(rt, texts, Status::BadWords),
@@ -123,6 +152,8 @@ pub fn run_arguments<
             world,
             out,
             taps: Vec::new(rt.alloc()),
+            refused: None,
+            same: Some(places),
         };
     }
     let run = run_words(rt, texts, world, out, clock, &OpenGate);
@@ -133,6 +164,8 @@ pub fn run_arguments<
         world: run.world,
         out: run.out,
         taps: run.taps,
+        refused: run.refused,
+        same: None,
     }
 }
 
@@ -153,7 +186,7 @@ fn end<R: Eprint>(rt: &R, status: Status) -> ExitCode
 
 /// Tells what was not done, and what helps, and ends with the number of the status.
 #[tactic(auto, using(crate::proofs::ExitCodes::ends_with))]
-fn end_more<R: AllocGlobal + Files + Eprint>(rt: &R, words: &[plain_text::Text], status: Status) -> ExitCode
+fn end_more<R: AllocGlobal + Files + Eprint>(rt: &R, words: &[Text], status: Status) -> ExitCode
     ensures { EndsWith status (exit_status result) }
 {
     let told = tell(rt, status);

@@ -1,16 +1,18 @@
-ghost use Rattle.std.specs.Prelude.{◌≡◌, ◌<◌, ◌≤◌, ◌*◌, ◌^◌, ◌⊎◌, ℕ, [], IfOk, IfErr, None, true, false};
-ghost use Rattle.std.specs.Prelude.{length};
+ghost use Rattle.std.specs.Prelude.{◌≡◌, ◌<◌, ◌≤◌, ◌*◌, ◌^◌, ◌⊎◌, ℕ, [], IfOk, IfErr, IfSome, None, true};
+ghost use Rattle.std.specs.Prelude.{false, length};
 ghost use Rattle.job_commands.specs.Words.{asked};
-ghost use Rattle.command_line.specs.Performing.{Performs};
-ghost use Rattle.command_line.specs.Running.{AreNamed, AsksToWatch, IsNotBegun, Runs, TapsMirror};
+ghost use Rattle.command_line.specs.Performing.{PerformsIn, WatchesIn};
+ghost use Rattle.command_line.specs.Running.{AreNamed, AsksToWatch, HasRefused, IsNotBegun, Runs};
+ghost use Rattle.command_line.specs.Running.{TapsMirror};
 ghost use Rattle.command_words.specs.Printing.{asked_text};
-ghost use Rattle.command_words.specs.Watching.{PrintsLines, Watches, begins_watch};
+ghost use Rattle.command_words.specs.Watching.{PrintsLines, begins_watch};
 ghost use Rattle.job_top.specs.Answers.{Answers};
 ghost use Rattle.packet_taps.specs.Lines.{HasPrinted};
 ghost use Rattle.release_taps.specs.Split.{AsksForTaps, BeginsWithTap, behind_pairs};
-ghost use Rattle.world_told.specs.Sent.{name_of, sent_to};
 ghost use Rattle.release_taps.specs.Seats.{AllFresh};
 ghost use Rattle.world_io.specs.World.{Start};
+ghost use Rattle.world_real.specs.Real.{real_ledger};
+ghost use Rattle.world_told.specs.Sent.{name_of, sent_to};
 
 use crate::perform;
 use command_words::{asks_watch, watch_words};
@@ -22,28 +24,37 @@ use std::rt::Files;
 use std::sync::Wait;
 use std::thread::Threads;
 use var_locks::Gate;
-use world_io::{Clock, World};
-use release_taps::Seat;
+use world_io::{Clock, OpenFault, World};
 use world_real::{RealWorld, Silence};
 use world_told::ToldTap;
 
-/// A tap on a file of the system.
-pub type RealTap<'a, R> = ToldTap<RealWorld<&'a R, Silence>>;
+/// The files of the system, where nothing is told of what is written.
+pub type SilentWorld<'a, R> = RealWorld<&'a R, Silence>;
 
-/// What a run of the words came to, the world that it leaves, the one on whose report a capture's lines are printed, and
-/// the taps, each in its seat.
+/// A tap on a file of the system.
+pub type RealTap<'a, R> = ToldTap<SilentWorld<'a, R>>;
+
+/// What a run of the words came to, and what it leaves.
 #[derive(Drop)]
-pub struct Ran<W, V, T> {
+pub struct Ran<W, V, T, X> {
     pub status: Status,
+    /// The world in which the command ran.
     pub world: W,
+    /// The world on whose report the lines of a watched capture are printed.
     pub out: V,
+    /// The taps, each in its seat; none where the run was not begun.
     pub taps: Vec<Seat<T>>,
+    /// The world in which the file of a tap could not be created, which has counted a fault.
+    pub refused: Option<X>,
 }
 
 /// Does what the words ask for over the files of a world: performs them; or, where pairs
-/// `tap NAME` stand in front, runs what stands behind them and mirrors the released capture under
+/// `tap NAME` stand in front, runs what stands after them and mirrors the released capture under
 /// each name; or, where the first word is `watch`, prints a line for each packet of a window on the
 /// report of the other world.
+///
+/// It ends with `BadWords` only where the words ask for nothing that it does, and with `WriteFault` or
+/// `ReadFault` only where a world counted a fault.
 pub fn run_words<
     'a,
     W: World + Drop,
@@ -58,18 +69,20 @@ pub fn run_words<
     out: V,
     clock: &C,
     gate: &G,
-) -> Ran<W, V, RealTap<'a, R>>
+) -> Ran<W, V, RealTap<'a, R>, SilentWorld<'a, R>>
     requires room { (W.ledger world).given < 2 ^ 31 }
     requires new_world { (file : ℕ) → (W.ledger world).created file ≡ false }
     requires fresh { HasPrinted V.honest V.shows [] out }
-    ensures runs { Runs W.honest W.shows W.ledger W.healthy (C.may clock.now) words.now
-        result.status world result.world }
+    ensures runs { Runs W.honest W.shows W.ledger W.healthy (C.may clock.now)
+        (λ w. (real_ledger w).write_faults) result.refused words.now result.status world
+        result.world (V.ledger result.out) }
     ensures prints { AsksToWatch words.now
         → PrintsLines W.honest W.shows W.healthy V.honest V.shows words.now
         result.status world result.world result.out }
     ensures prints_nothing { ¬ AsksToWatch words.now → result.out ≡ out }
     ensures mirrors { (pairs : ℕ) → AsksForTaps words.now pairs
-        → IsNotBegun result.status world result.world ⊎ TapsMirror W.honest W.shows W.ledger
+        → IsNotBegun (λ w. (real_ledger w).write_faults) result.refused result.status
+        world result.world ⊎ TapsMirror W.honest W.shows W.ledger
         (λ t. (t.faults ≡ 0) × (t.lacks ≡ 0)) (λ t. sent_to t.file t.world.calls)
         (λ t. t.faults) (λ t. t.lacks) (λ t. name_of t.file t.world.calls)
         words.now pairs result.world result.taps.items }
@@ -78,6 +91,11 @@ pub fn run_words<
     ensures no_command { ¬ BeginsWithTap words.now
         → asked words.now ≡ None → asked_text words.now ≡ None
         → begins_watch words.now ≡ false → result.status ≡ Status.BadWords }
+    ensures read_fault { result.status ≡ Status.ReadFault
+        → 0 < (W.ledger result.world).read_faults }
+    ensures write_fault { result.status ≡ Status.WriteFault
+        → (0 < (W.ledger result.world).write_faults) ⊎ ((0 < (V.ledger result.out).write_faults)
+        ⊎ HasRefused (λ w. (real_ledger w).write_faults) result.refused) }
 {
     match split_taps(words) {
         Split::Plain => run_plain(rt, words, world, out, clock, gate),
@@ -86,6 +104,7 @@ pub fn run_words<
             world,
             out,
             taps: Vec::new(rt.alloc()),
+            refused: None,
         },
         Split::Taps { pairs, .. } => run_tapped(rt, words, pairs, world, out, clock, gate),
     }
@@ -95,26 +114,24 @@ pub fn run_words<
 /// there for nothing else.
 fn run_plain<
     T,
+    X,
     W: World + Drop,
     V: World + Drop,
     C: Clock + Sync,
     G: Gate + Sync,
     R: AllocGlobal + Threads + Wait + Sync,
->(rt: &R, words: &[Text], world: W, out: V, clock: &C, gate: &G) -> Ran<W, V, T>
+>(rt: &R, words: &[Text], world: W, out: V, clock: &C, gate: &G) -> Ran<W, V, T, X>
     requires room { (W.ledger world).given < 2 ^ 31 }
     requires fresh { HasPrinted V.honest V.shows [] out }
-    ensures performs { begins_watch words.now ≡ false → (p : Start) → W.honest p result.world
-        → Performs (W.healthy world) (C.may clock.now) words.now result.status
-        (W.shows p world) (W.shows p result.world) }
-    ensures watches { begins_watch words.now ≡ true → (p : Start) → W.honest p result.world
-        → Watches (W.healthy world) words.now result.status (W.shows p world) }
+    ensures performs { begins_watch words.now ≡ false → PerformsIn W.honest W.shows W.ledger
+        W.healthy (C.may clock.now) words.now result.status world result.world }
+    ensures watches { begins_watch words.now ≡ true → WatchesIn W.honest W.shows W.ledger
+        W.healthy words.now result.status world result.world (V.ledger result.out) }
     ensures prints { begins_watch words.now ≡ true → PrintsLines W.honest W.shows W.healthy
         V.honest V.shows words.now result.status world result.world result.out }
     ensures prints_nothing { begins_watch words.now ≡ false → result.out ≡ out }
     ensures no_command { asked words.now ≡ None → asked_text words.now ≡ None
         → begins_watch words.now ≡ false → result.status ≡ Status.BadWords }
-    ensures nothing_asked { result.status ≡ Status.BadWords → result.world ≡ world }
-    ensures before { (p : Start) → W.honest p result.world → W.honest p world }
 {
     let mut world = world;
     if asks_watch(words) {
@@ -124,6 +141,7 @@ fn run_plain<
             world,
             out: watched.out,
             taps: Vec::new(rt.alloc()),
+            refused: None,
         };
     }
     let status = perform(rt, words, &mut world, clock, gate);
@@ -132,10 +150,11 @@ fn run_plain<
         world,
         out,
         taps: Vec::new(rt.alloc()),
+        refused: None,
     }
 }
 
-/// Runs what stands behind the pairs. Each tap writes to the file of its name, which is created
+/// Runs what stands after the pairs. Each tap writes to the file of its name, which is created
 /// before the command begins.
 fn run_tapped<
     'a,
@@ -152,26 +171,30 @@ fn run_tapped<
     out: V,
     clock: &C,
     gate: &G,
-) -> Ran<W, V, RealTap<'a, R>>
+) -> Ran<W, V, RealTap<'a, R>, SilentWorld<'a, R>>
     requires asks { AsksForTaps words.now pairs }
     requires room { (W.ledger world).given < 2 ^ 31 }
     requires new_world { (file : ℕ) → (W.ledger world).created file ≡ false }
-    ensures answers { IsNotBegun result.status world result.world ⊎ Answers W.honest W.shows W.ledger
+    ensures answers { IsNotBegun (λ w. (real_ledger w).write_faults) result.refused
+        result.status world result.world ⊎ Answers W.honest W.shows W.ledger
         W.healthy (C.may clock.now) (behind_pairs pairs words.now)
         result.status world result.world }
     ensures prints_nothing { result.out ≡ out }
-    ensures mirrors { IsNotBegun result.status world result.world ⊎ TapsMirror W.honest W.shows
-        W.ledger (λ t. (t.faults ≡ 0) × (t.lacks ≡ 0)) (λ t. sent_to t.file t.world.calls)
-        (λ t. t.faults) (λ t. t.lacks) (λ t. name_of t.file t.world.calls) words.now pairs result.world result.taps.items }
+    ensures mirrors { IsNotBegun (λ w. (real_ledger w).write_faults) result.refused
+        result.status world result.world ⊎ TapsMirror W.honest W.shows W.ledger
+        (λ t. (t.faults ≡ 0) × (t.lacks ≡ 0)) (λ t. sent_to t.file t.world.calls)
+        (λ t. t.faults) (λ t. t.lacks) (λ t. name_of t.file t.world.calls)
+        words.now pairs result.world result.taps.items }
 {
     let taps = match create_taps(rt, words, pairs) {
         Ok(taps) => taps,
-        Err(status) => {
+        Err(refused) => {
             return Ran {
-                status,
+                status: status_without(&refused),
                 world,
                 out,
                 taps: Vec::new(rt.alloc()),
+                refused,
             };
         }
     };
@@ -181,22 +204,38 @@ fn run_tapped<
             world: run.rest.world,
             out,
             taps: run.rest.seats,
+            refused: None,
         },
         Err(world) => Ran {
             status: Status::NoMemory,
             world,
             out,
             taps: Vec::new(rt.alloc()),
+            refused: None,
         },
     }
 }
 
-/// A tap on a file for each name, in order, each in a world of its own.
+/// The status where taps could not be created: of a write fault where a world refused a file, and
+/// else of want of memory.
+fn status_without<X>(refused: &Option<X>) -> Status
+    ensures refused { IfSome refused.now (λ _. result ≡ Status.WriteFault) }
+    ensures memory { refused.now ≡ None → result ≡ Status.NoMemory }
+{
+    match refused {
+        Some(_) => Status::WriteFault,
+        None => Status::NoMemory,
+    }
+}
+
+/// A tap on a file for each name, in order, each in a world of its own; or the world that refused a
+/// file, or none where memory ran out.
+#[tactic(auto, using(crate::proofs::Runs::rose_some))]
 fn create_taps<'a, R: AllocGlobal + Files + Print>(
     rt: &'a R,
     words: &[Text],
     pairs: usize,
-) -> Result<Vec<RealTap<'a, R>>, Status>
+) -> Result<Vec<RealTap<'a, R>>, Option<SilentWorld<'a, R>>>
     requires { 2 * pairs ≤ length words.now }
     ensures count { IfOk result (λ taps. length taps.items ≡ pairs) }
     ensures named { IfOk result (λ taps. AreNamed
@@ -204,17 +243,23 @@ fn create_taps<'a, R: AllocGlobal + Files + Print>(
     ensures fresh { IfOk result
         (λ taps. AllFresh (λ t. (t.faults ≡ 0) × (t.lacks ≡ 0))
         (λ t. sent_to t.file t.world.calls) (λ t. t.faults) (λ t. t.lacks) taps.items) }
-    ensures status { IfErr result
-        (λ status. (status ≡ Status.WriteFault) ⊎ (status ≡ Status.NoMemory)) }
+    ensures refused { IfErr result
+        (λ refused. IfSome refused (λ w. 0 < (real_ledger w).write_faults)) }
 {
     let mut taps = Vec::new(rt.alloc());
     for pair in 0..pairs {
         let world = RealWorld::new(rt.alloc(), rt, Silence);
-        let Ok(tap) = ToldTap::create(world, &words[2 * pair + 1]) else {
-            return Err(Status::WriteFault);
+        let tap = match ToldTap::create(world, &words[2 * pair + 1]) {
+            Ok(tap) => tap,
+            Err(refused) => {
+                return match refused.fault {
+                    OpenFault::Failed => Err(Some(refused.world)),
+                    OpenFault::NoMemory => Err(None),
+                };
+            }
         };
         if taps.push(tap).is_err() {
-            return Err(Status::NoMemory);
+            return Err(None);
         }
     }
     Ok(taps)

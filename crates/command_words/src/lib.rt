@@ -16,5 +16,5 @@ pub use names::one_file;
 pub use request::{Request, read_request};
 pub use telling::tell_more;
 pub use usage::{help, version};
-pub use watching::{asks_watch, watch_words};
+pub use watching::{WatchedTo, asks_watch, watch_words};
 pub use words::read_words;

@@ -1,4 +1,4 @@
-ghost use Rattle.std.specs.Prelude.{◌≡◌, ◌<◌, ◌^◌, [], None};
+ghost use Rattle.std.specs.Prelude.{◌≡◌, ◌↔◌, ◌<◌, ◌^◌, [], None};
 ghost use Rattle.world_io.specs.Stream.{Rose};
 ghost use Rattle.world_io.specs.World.{Start};
 ghost use Rattle.packet_taps.specs.Lines.{HasPrinted};
@@ -43,10 +43,13 @@ pub fn watch_words<W: World, V: World + Drop>(
         → Watches (W.healthy world.old) words.now result.status (W.shows p world.old) }
     ensures prints { PrintsLines W.honest W.shows W.healthy V.honest V.shows words.now
         result.status world.old world.new result.out }
-    ensures bad_words { watch_names words.now ≡ None → result.status ≡ Status.BadWords }
+    ensures bad_words { (result.status ≡ Status.BadWords) ↔ (watch_names words.now ≡ None) }
     ensures nothing_asked { result.status ≡ Status.BadWords → world.new ≡ world.old }
+    ensures nothing_printed { result.status ≡ Status.BadWords → result.out ≡ out }
     ensures read_fault { result.status ≡ Status.ReadFault
         → Rose (W.ledger world.old).read_faults (W.ledger world.new).read_faults }
+    ensures write_fault { result.status ≡ Status.WriteFault
+        → 0 < (V.ledger result.out).write_faults }
     ensures only_reads { ReadsOneName W.ledger W.healthy world.old world.new }
     ensures keeps { (p : Start) → W.honest p world.new
         → KeepsFiles (W.shows p world.old) (W.shows p world.new) }
@@ -65,6 +68,7 @@ fn status_of(printed: Printed) -> Status
     ensures bad_words { result ≡ Status.BadWords → printed ≡ Printed.Watched Watched.BadWords }
     ensures read_fault { result ≡ Status.ReadFault
         → printed ≡ Printed.Watched Watched.ReadFault }
+    ensures write_fault { result ≡ Status.WriteFault → printed ≡ Printed.WriteFault }
 {
     match printed {
         Printed::Watched(Watched::Done(_)) => Status::Done,

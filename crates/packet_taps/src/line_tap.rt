@@ -1,7 +1,8 @@
 ghost use Rattle.std.specs.Prelude.{◌≡◌, ◌++◌, ◌∷◌, [], ℕ, List, IfOk, take};
 ghost use Rattle.plain_text.specs.declared.packet.Packet.{Packet};
+ghost use Rattle.world_io.specs.Stream.{Rose};
 ghost use Rattle.world_io.specs.World.{Start};
-ghost use Rattle.packet_taps.specs.Lines.{Counts, HasBegunToPrint, HasPrinted, line_of, lines_of};
+ghost use Rattle.packet_taps.specs.Lines.{Counts, MissedLine, SawLines, line_of};
 
 use crate::PacketTap;
 use plain_text::{Bytes, NoMemory, Packet, put_u64};
@@ -14,7 +15,7 @@ use world_io::{World, WorldSink, WriteError, write_all};
 /// fraction is as the packet has it and the length is that of the captured bytes.
 ///
 /// On a report on which nothing stood it says that the lines of what it was shown stand there. Where printing fails, a
-/// first part of a line may stand behind them.
+/// first part of a line may stand after them.
 #[derive(Drop)]
 pub struct LineTap<W> {
     alloc: Global,
@@ -60,6 +61,8 @@ impl<W: World + Drop> LineTap<W> {
         ensures stops { (p : Start) → W.honest p self.new.world → ¬ (result ≡ Shown.Took)
             → (k : ℕ) × ((W.shows p self.new.world).sent 0
             ≡ (W.shows p self.old.world).sent 0 ++ take k (line_of packet.now)) }
+        ensures cause { result ≡ Shown.Failed → Rose (W.ledger self.old.world).write_faults
+            (W.ledger self.new.world).write_faults }
         ensures before { (p : Start) → W.honest p self.new.world → W.honest p self.old.world }
     {
         let shown = print_line(self.alloc, &mut self.world, packet);
@@ -79,6 +82,8 @@ fn print_line<W: World>(alloc: Global, world: &mut W, packet: &Packet) -> Shown
     ensures stops { (p : Start) → W.honest p world.new → ¬ (result ≡ Shown.Took)
         → (k : ℕ) × ((W.shows p world.new).sent 0
         ≡ (W.shows p world.old).sent 0 ++ take k (line_of packet.now)) }
+    ensures cause { result ≡ Shown.Failed
+        → Rose (W.ledger world.old).write_faults (W.ledger world.new).write_faults }
     ensures before { (p : Start) → W.honest p world.new → W.honest p world.old }
 {
     let Ok(line) = make_line(alloc, packet) else {
@@ -107,11 +112,11 @@ fn make_line(alloc: Global, packet: &Packet) -> Result<Bytes, NoMemory>
 }
 
 impl<W: World + Drop> PacketTap for LineTap<W> {
-    ghost use Rattle.packet_taps.specs.Lines.{HasBegunToPrint, HasPrinted, lines_of};
+    ghost use Rattle.packet_taps.specs.Lines.{MissedLine, SawLines};
 
-    ghost saw = { λ t packets. HasPrinted W.honest W.shows (lines_of packets) t.world };
+    ghost saw = { λ t packets. SawLines W.honest W.shows packets t };
 
-    ghost missed = { λ t packets. HasBegunToPrint W.honest W.shows (lines_of packets) t.world };
+    ghost missed = { λ t packets. MissedLine W.honest W.shows W.ledger packets t };
 
     ghost fault_count = { λ t. t.faults };
 
@@ -119,12 +124,11 @@ impl<W: World + Drop> PacketTap for LineTap<W> {
 
     fn show(&mut self, packet: &Packet) -> Shown
         ensures took { result ≡ Shown.Took → (before : List Packet)
-            → HasPrinted W.honest W.shows (lines_of before) self.old.world
-            → HasPrinted W.honest W.shows (lines_of (before ++ packet.now ∷ [])) self.new.world }
+            → SawLines W.honest W.shows before self.old
+            → SawLines W.honest W.shows (before ++ packet.now ∷ []) self.new }
         ensures misses { ¬ (result ≡ Shown.Took) → (before : List Packet)
-            → HasPrinted W.honest W.shows (lines_of before) self.old.world
-            → HasBegunToPrint W.honest W.shows (lines_of (before ++ packet.now ∷ []))
-            self.new.world }
+            → SawLines W.honest W.shows before self.old
+            → MissedLine W.honest W.shows W.ledger (before ++ packet.now ∷ []) self.new }
         ensures counts { Counts result self.old self.new }
 
         // Beyond any tap: what it prints.

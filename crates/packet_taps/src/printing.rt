@@ -28,7 +28,7 @@ pub struct PrintedTo<V> {
     pub out: V,
 }
 
-/// Performs `watch CAPTURE SKIP QUOTA`: prints a line for each packet of the capture behind the first SKIP, for QUOTA
+/// Performs `watch CAPTURE SKIP QUOTA`: prints a line for each packet of the capture after the first SKIP, for QUOTA
 /// packets at most, on the report of a world that is there for nothing else.
 pub fn print_watched<W: World, V: World + Drop>(
     alloc: Global,
@@ -52,6 +52,8 @@ pub fn print_watched<W: World, V: World + Drop>(
         (W.shows p world.old)) result.out) }
     ensures read_fault { result.printed ≡ Printed.Watched Watched.ReadFault
         → Rose (W.ledger world.old).read_faults (W.ledger world.new).read_faults }
+    ensures write_fault { result.printed ≡ Printed.WriteFault
+        → 0 < (V.ledger result.out).write_faults }
     ensures only_reads { ReadsOneName W.ledger W.healthy world.old world.new }
     ensures keeps { (p : Start) → W.honest p world.new
         → KeepsFiles (W.shows p world.old) (W.shows p world.new) }

@@ -1,17 +1,19 @@
-ghost use Rattle.std.specs.Prelude.{◌≡◌, ◌∷◌, ◌++◌, ◌-◌, ◌<◌, ◌^◌, [], IsTrue, IfOk};
+ghost use Rattle.std.specs.Prelude.{◌≡◌, ◌∷◌, ◌++◌, ◌-◌, ◌<◌, ◌^◌, [], IsTrue, IfErr, IfOk};
 ghost use Rattle.release_taps.specs.Seats.{IsFresh};
+ghost use Rattle.world_io.specs.Stream.{Rose};
 ghost use Rattle.world_io.specs.World.{is_writable};
 ghost use Rattle.world_told.specs.Sent.{name_of, sent_to};
 
-use crate::{Call, Told, ToldTap};
+use crate::{Call, Refused, Told, ToldTap};
 use plain_text::Text;
 use release_taps::{Shown, Tap};
 use world_io::{OpenFault, Put, World};
 
 impl<W: World + Drop> ToldTap<W> {
     /// Makes the bytes under the name empty, and a tap that will write them. It was shown nothing yet.
+    /// Where the file is not created, the world is given back.
     #[tactic(auto, using(crate::proofs::Sending::name_created, crate::proofs::Sending::sent_created))]
-    pub fn create(world: W, name: &Text) -> Result<ToldTap<W>, OpenFault>
+    pub fn create(world: W, name: &Text) -> Result<ToldTap<W>, Refused<W>>
         requires { (W.ledger world).given < 2 ^ 32 - 1 }
         ensures created { IfOk result
             (λ tap. tap.world.calls ≡ (Call.Created tap.file, name.now) ∷ []) }
@@ -19,15 +21,22 @@ impl<W: World + Drop> ToldTap<W> {
         ensures fresh { IfOk result
             (λ tap. IsFresh (λ t. (t.faults ≡ 0) × (t.lacks ≡ 0))
             (λ t. sent_to t.file t.world.calls) (λ t. t.faults) (λ t. t.lacks) tap) }
+        ensures cause { IfErr result (λ refused. refused.fault ≡ OpenFault.Failed
+            → Rose (W.ledger world).write_faults (W.ledger refused.world).write_faults) }
     {
         let mut told = Told::of(world);
-        let file = told.create_file(name)?;
-        Ok(ToldTap {
-            world: told,
-            file,
-            faults: 0,
-            lacks: 0,
-        })
+        match told.create_file(name) {
+            Ok(file) => Ok(ToldTap {
+                world: told,
+                file,
+                faults: 0,
+                lacks: 0,
+            }),
+            Err(fault) => Err(Refused {
+                fault,
+                world: told.into_inner(),
+            }),
+        }
     }
 }
 

@@ -2,7 +2,7 @@ ghost use Rattle.std.specs.Prelude.{IsTrue};
 ghost use Rattle.world_io.specs.World.{is_writable};
 
 use crate::Told;
-use world_io::World;
+use world_io::{OpenFault, World};
 
 /// A tap that writes what it is shown to a file of a world of its own, of whose calls there is a record.
 ///
@@ -15,4 +15,11 @@ pub struct ToldTap<W: World> {
     pub faults: u64,
     pub lacks: u64,
     ghost writable: { IsTrue (is_writable (W.ledger world.world) file) },
+}
+
+/// Why the file of a tap was not created, and the world in which it was to be.
+#[derive(Drop)]
+pub struct Refused<W> {
+    pub fault: OpenFault,
+    pub world: W,
 }

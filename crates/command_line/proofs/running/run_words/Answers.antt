@@ -1,23 +1,47 @@
 use Rattle.std.proofs.Common.{◌≡◌, ◌⊎◌, ℕ, subst}
 use Rattle.release_taps.proofs.Counting.{one_count}
 use Rattle.command_line.specs.Running.{IsNotBegun, TapsMirror}
+use Rattle.world_real.specs.Real.{real_ledger}
 use Rattle.world_told.specs.Sent.{name_of, sent_to}
-use Rattle.command_line.proofs.Runs.{plain_taps, plain_watch, runs-bad, runs-plain, runs-tapped, tapped_watch}
+use Rattle.command_line.proofs.Runs.{plain-read_fault, plain-write_fault, plain_taps, plain_watch, runs-bad, runs-plain}
+use Rattle.command_line.proofs.Runs.{runs-tapped, tapped-read_fault, tapped-write_fault, tapped_watch}
 use Rattle.command_line.proofs.running.run_words.Goals as goal
 
 pub returns-in-Bad-clause-runs : goal.returns-in-Bad-clause-runs
-returns-in-Bad-clause-runs g c = runs-bad _ _ _ _ _ _ c.args.world c.in-Bad.ensures.0 c.in-Bad.ensures.1
+returns-in-Bad-clause-runs g c = runs-bad _ _ _ _ _ _ _ _ c.args.world _ c.in-Bad.ensures.0 c.in-Bad.ensures.1
 
 pub returns-in-Plain-clause-runs : goal.returns-in-Plain-clause-runs
 returns-in-Plain-clause-runs g c =
     let ran = c.run_plain.ensures in
-    runs-plain _ _ _ _ _ _ c.run_plain.result.status c.args.world c.run_plain.result.world c.in-Plain.ensures
-    ran.performs ran.watches ran.nothing_asked ran.before
+    runs-plain _ _ _ _ _ _ _ _ c.run_plain.result.status c.args.world c.run_plain.result.world _ ran.performs ran.watches
+    c.in-Plain.ensures
 
 pub returns-in-Taps-clause-runs : goal.returns-in-Taps-clause-runs
 returns-in-Taps-clause-runs g c =
-    runs-tapped _ _ _ _ _ _ c.run_tapped.result.status c.args.world c.run_tapped.result.world
+    runs-tapped _ _ _ _ _ _ _ _ c.run_tapped.result.status c.args.world c.run_tapped.result.world _
     c.in-Taps.pairs c.in-Taps.ensures.0 c.run_tapped.ensures.answers
+
+pub returns-in-Plain-clause-read_fault : goal.returns-in-Plain-clause-read_fault
+returns-in-Plain-clause-read_fault g c =
+    let ran = c.run_plain.ensures in
+    plain-read_fault _ _ _ _ _ _ c.run_plain.result.refused c.args.words.now c.run_plain.result.status c.args.world
+    c.run_plain.result.world _ ran.performs ran.watches
+
+pub returns-in-Taps-clause-read_fault : goal.returns-in-Taps-clause-read_fault
+returns-in-Taps-clause-read_fault g c =
+    tapped-read_fault _ _ _ _ _ _ _ c.args.words.now c.run_tapped.result.status c.args.world c.run_tapped.result.world
+    (g.V.World.ledger c.run_tapped.result.out) c.in-Taps.pairs c.in-Taps.ensures.0 c.run_tapped.ensures.answers
+
+pub returns-in-Plain-clause-write_fault : goal.returns-in-Plain-clause-write_fault
+returns-in-Plain-clause-write_fault g c =
+    let ran = c.run_plain.ensures in
+    plain-write_fault _ _ _ _ _ _ c.run_plain.result.refused c.args.words.now c.run_plain.result.status c.args.world
+    c.run_plain.result.world _ ran.performs ran.watches
+
+pub returns-in-Taps-clause-write_fault : goal.returns-in-Taps-clause-write_fault
+returns-in-Taps-clause-write_fault g c =
+    tapped-write_fault _ _ _ _ _ _ _ c.args.words.now c.run_tapped.result.status c.args.world c.run_tapped.result.world
+    (g.V.World.ledger c.run_tapped.result.out) c.in-Taps.pairs c.in-Taps.ensures.0 c.run_tapped.ensures.answers
 
 pub returns-in-Bad-clause-prints : goal.returns-in-Bad-clause-prints
 returns-in-Bad-clause-prints g c asks = absurd (asks.no_tap c.in-Bad.ensures.0)
@@ -41,7 +65,8 @@ returns-in-Plain-clause-mirrors g c pairs asks = absurd (plain_taps c.args.words
 
 pub returns-in-Taps-clause-mirrors : goal.returns-in-Taps-clause-mirrors
 returns-in-Taps-clause-mirrors g c pairs asks =
-    subst (λ (n : ℕ). IsNotBegun c.run_tapped.result.status c.args.world c.run_tapped.result.world
+    subst (λ (n : ℕ). IsNotBegun (λ w. (real_ledger w).write_faults) c.run_tapped.result.refused
+    c.run_tapped.result.status c.args.world c.run_tapped.result.world
     ⊎ TapsMirror g.W.World.honest g.W.World.shows g.W.World.ledger
     (λ t. (t.faults ≡ 0) × (t.lacks ≡ 0)) (λ t. sent_to t.file t.world.calls) (λ t. t.faults) (λ t. t.lacks)
     (λ t. name_of t.file t.world.calls) c.args.words.now n c.run_tapped.result.world

@@ -11,5 +11,7 @@ returns-clause-prints g c =
     (c.print_watched-watched.result.printed, c.status_of.ensures.status, c.print_watched-watched.ensures.prints)
 
 pub returns-clause-bad_words : goal.returns-clause-bad_words
-returns-clause-bad_words g c none =
-    c.status_of.ensures.status ∙ ap watch_status (c.print_watched-watched.ensures.bad_words.1 none)
+returns-clause-bad_words g c = (
+  (λ bad. c.print_watched-watched.ensures.bad_words.0 (c.status_of.ensures.bad_words bad)),
+  (λ none. c.status_of.ensures.status ∙ ap watch_status (c.print_watched-watched.ensures.bad_words.1 none)),
+)
