@@ -93,18 +93,20 @@ prints_files {W} {V} words status old new out printed none none_out prints nothi
 -- From the arguments to the words
 
 module _ {A E : Type 0} (arguments : Result A E) (of : A → List (List ℕ)) (words : List (List ℕ))
-    (is : IfOk arguments (λ all. words ≡ of all)) (Asked Ran : List (List ℕ) → Type 0) where
-  pub with_words : Ran words → IfOk arguments (λ all. Asked (of all) ⊎ Ran (of all))
-  with_words ran = go arguments is
+    (is : IfOk arguments (λ all. words ≡ of all)) where
+  pub with_words : (Asked : A → Type 0) (Ran : List (List ℕ) → Type 0) → Ran words
+      → IfOk arguments (λ all. Asked all ⊎ Ran (of all))
+  with_words Asked Ran ran = go arguments is
     where
-      go : (given : Result A E) → IfOk given (λ all. words ≡ of all) → IfOk given (λ all. Asked (of all) ⊎ Ran (of all))
+      go : (given : Result A E) → IfOk given (λ all. words ≡ of all) → IfOk given (λ all. Asked all ⊎ Ran (of all))
       go (Ok all) same = inr (subst Ran same ran)
       go (Err error) same = tt
 
-  pub asked_only : Asked words → IfOk arguments (λ all. Asked (of all) ⊎ Ran (of all))
-  asked_only asked = go arguments is
+  pub asked_only : (Asked : List (List ℕ) → Type 0) (Ran : A → Type 0) → Asked words
+      → IfOk arguments (λ all. Asked (of all) ⊎ Ran all)
+  asked_only Asked Ran asked = go arguments is
     where
-      go : (given : Result A E) → IfOk given (λ all. words ≡ of all) → IfOk given (λ all. Asked (of all) ⊎ Ran (of all))
+      go : (given : Result A E) → IfOk given (λ all. words ≡ of all) → IfOk given (λ all. Asked (of all) ⊎ Ran all)
       go (Ok all) same = inl (subst Asked same asked)
       go (Err error) same = tt
 

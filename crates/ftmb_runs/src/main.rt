@@ -5,7 +5,7 @@
 //! - `$ ftmb WORDS`: the command, performed as the program performs it; its report, and how the program ends.
 //! - `write NAME: LINES`: a file is written; a semicolon stands for the end of a line.
 //! - `hex NAME: PARTS`: a file is written of parts, one after the other: hexadecimal digits, or `@` and another file's name.
-//! - `text NAME`: the lines of a file, a semicolon behind each.
+//! - `text NAME`: the lines of a file, a semicolon after each.
 //! - `bytes NAME`: the bytes of a file, in hexadecimal digits, 16 on a line.
 //! - `same NAME NAME ..`: whether these files have the same bytes, or the first one that has others.
 //!
@@ -65,7 +65,7 @@ fn run<R: AllocGlobal + Files + Print + Threads + Wait + Sync>(
     println!(rt; "{number}: {}", StatusText(status))
 }
 
-/// Writes a file: its name, and behind a colon its lines.
+/// Writes a file: its name, and after a colon its lines.
 fn write<R: AllocGlobal + Files + Print>(rt: &R, file: &str) -> io::Result<()> {
     let Some((name, lines)) = file.split_once(": ") else {
         return println!(rt; "no name");

@@ -83,11 +83,11 @@ fn seat_and_run<
     Ok(run_mirrored(rt, words, tapped, clock, gate))
 }
 
-/// Runs what stands behind the pairs `tap NAME`, and shows each tap the bytes that the released
+/// Runs what stands after the pairs `tap NAME`, and shows each tap the bytes that the released
 /// capture took.
 ///
 /// A tap that fails is shown nothing more, keeps its seat, and changes nothing for the command: its
-/// status and its files are those that `ftmb` promises of the words behind the pairs. The world has
+/// status and its files are those that `ftmb` promises of the words after the pairs. The world has
 /// created no file before. After want of memory the taps are gone, and the world, of which nothing was
 /// asked, is given back.
 pub fn tapped<
@@ -109,7 +109,7 @@ pub fn tapped<
     requires new_world { (file : ℕ) → (W.ledger world).created file ≡ false }
     requires fresh { AllFresh T.tells T.seen T.fault_count T.lack_count taps.items }
 
-    // All that the top call promises of the words behind the pairs.
+    // All that the top call promises of the words after the pairs.
     ensures answers { IfOk result (λ run. Answers W.honest W.shows W.ledger W.healthy
         (C.may clock.now) (behind_pairs (length taps.items) words.now)
         run.status world run.rest.world) }

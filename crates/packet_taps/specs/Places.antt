@@ -21,7 +21,7 @@ TakesOut seat None old new = ¬ IsSeatedAt old seat × (new ≡ old)
 TakesOut seat (Some taken) old new = (slice_get old seat ≡ Some (Seated taken)) × (new ≡ slice_set old seat Out)
 
 module _ {T : Type 0} (saw missed : T → List Packet → Type 0) (faults lacks : T → ℕ) where
-  -- A tap that stays was shown, after what it had, the window of these packets by its numbers. They go on behind them.
+  -- A tap that stays was shown, after what it had, the window of these packets by its numbers. They go on after them.
   pub record Stays (packets : List Packet) (old new : Taken T) : Type 0 where
     pub saw_window : (before : List Packet) → saw old.tap before
         → saw new.tap (before ++ window old.skip old.quota packets)
@@ -30,7 +30,7 @@ module _ {T : Type 0} (saw missed : T → List Packet → Type 0) (faults lacks 
     pub skip : new.skip ≡ skip_behind old.skip (length packets)
     pub quota : new.quota ≡ quota_behind old.skip old.quota (length packets)
 
-  -- A tap that is lost was shown a first part of the window, and did not take the packet behind it. It counted why.
+  -- A tap that is lost was shown a first part of the window, and did not take the packet after it. It counted why.
   pub record IsLost (packets : List Packet) (old : Taken T) (lost : LostPacket T) : Type 0 where
     pub count : ℕ
     pub within : count < length (window old.skip old.quota packets)

@@ -42,7 +42,7 @@ impl<T: PacketTap> Deck<T> {
         })
     }
 
-    /// Seats a tap in the next seat: so many packets pass it by, and of those behind them it is shown at most so many.
+    /// Seats a tap in the next seat: so many packets pass it by, and of those after them it is shown at most so many.
     ///
     /// After want of memory the deck is as it was.
     pub fn seat(&mut self, tap: T, skip: u64, quota: u64) -> Result<u32, Unseated<T>>

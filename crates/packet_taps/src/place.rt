@@ -5,7 +5,7 @@ use crate::PacketTap;
 use plain_text::Packet;
 use release_taps::Shown;
 
-/// A tap with its window: how many packets still pass it by, and how many of those behind them it is still shown.
+/// A tap with its window: how many packets still pass it by, and how many of those after them it is still shown.
 #[derive(Drop)]
 pub struct Taken<T> {
     pub tap: T,

@@ -41,7 +41,9 @@ fn tapped<S: Seating>(
     requires labels { map (λ _. []) taps.items ≡ S.labels }
 {
     let asked = Text::of(alloc, name.as_str())?;
-    let mut world = TapWorld::<MemoryWorld, MemoryTap, S>::new(alloc, world, name, taps).map_err(|_| NoMemory)?;
+    let Ok(mut world) = TapWorld::<MemoryWorld, MemoryTap, S>::new(alloc, world, name, taps) else {
+        return Err(NoMemory);
+    };
     let _ = write_pieces(&mut world, &asked);
     Ok(world.part())
 }
