@@ -37,8 +37,8 @@ tapped_watch words pairs asks watch = watch.no_tap (begins words pairs asks)
 
 -- what is so of a test that is true, and of one that is false, is so
 either : (Holds : Type 0) (b : Bool) → (b ≡ true → Holds) → (b ≡ false → Holds) → Holds
-either Holds true yes no = yes refl
-either Holds false yes no = no refl
+either Holds true when_true when_false = when_true refl
+either Holds false when_true when_false = when_false refl
 
 -- a run of which the taps could not be created
 pub not_created : {W X : Type 0} (faults : X → ℕ) (refused : Option X) (status : Status) (world : W)
@@ -50,15 +50,16 @@ not_created faults (Some w) status world fault memory some = record { cause = in
 module _ {W X : Type 0} (honest : Start → W → Type 0) (shows : Start → W → Shown) (ledger : W → Ledger)
     (healthy : W → Type 0) (may : ℕ → Type 0) (faults : X → ℕ) (refused : Option X) (words : List (List ℕ)) where
   -- Words that begin with `tap` and ask for none: nothing was asked.
-  pub runs-bad : (world : W) (printed : Ledger) → BeginsWithTap words → ((pairs : ℕ) → ¬ AsksForTaps words pairs)
-      → Runs honest shows ledger healthy may faults refused words BadWords world world printed
-  runs-bad world printed tap none = record {
+  pub runs-bad : (status : Status) (old new : W) (printed : Ledger) → new ≡ old → BeginsWithTap words
+      → ((pairs : ℕ) → ¬ AsksForTaps words pairs)
+      → Runs honest shows ledger healthy may faults refused words status old new printed
+  runs-bad status old new printed same tap none = record {
     bad_words = λ bad. inl (tap, none);
-    nothing_asked = λ bad. refl;
+    nothing_asked = λ bad. same;
     performs = λ asks. absurd (asks.no_tap tap);
     watches = λ asks. absurd (asks.no_tap tap);
     taps = λ pairs asks. absurd (none pairs asks);
-    before = λ p h. h;
+    before = λ p h. subst (λ (w : W). honest p w) same h;
   }
 
   module _ (status : Status) (old new : W) (printed : Ledger) where
@@ -70,7 +71,9 @@ module _ {W X : Type 0} (honest : Start → W → Type 0) (shows : Start → W �
       runs-plain no_tap = record {
         bad_words = λ bad. either (AreBad words) (begins_watch words)
             (λ watch. inr (inr (inl (record { no_tap = no_tap; watch = watch }, (watches watch).bad_words bad))))
-            (λ plain. inr (inr (inr (record { no_tap = no_tap; no_watch = plain }, (performs plain).bad_words bad))));
+            (λ plain.
+                let none = (performs plain).bad_words bad in
+                inr (inr (inr (record { no_tap = no_tap; no_watch = plain }, none.0, none.1))));
         nothing_asked = λ bad. either (new ≡ old) (begins_watch words) (λ watch. (watches watch).nothing_asked bad)
             (λ plain. (performs plain).nothing_asked bad);
         performs = λ asks. performs asks.no_watch;

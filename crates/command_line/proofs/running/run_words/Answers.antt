@@ -8,7 +8,9 @@ use Rattle.command_line.proofs.Runs.{runs-tapped, tapped-read_fault, tapped-writ
 use Rattle.command_line.proofs.running.run_words.Goals as goal
 
 pub returns-in-Bad-clause-runs : goal.returns-in-Bad-clause-runs
-returns-in-Bad-clause-runs g c = runs-bad _ _ _ _ _ _ _ _ c.args.world _ c.in-Bad.ensures.0 c.in-Bad.ensures.1
+returns-in-Bad-clause-runs g c =
+    runs-bad _ _ _ _ _ _ _ _ c.not_asked.result.status c.args.world c.not_asked.result.world _ c.not_asked.ensures.world
+    c.in-Bad.ensures.0 c.in-Bad.ensures.1
 
 pub returns-in-Plain-clause-runs : goal.returns-in-Plain-clause-runs
 returns-in-Plain-clause-runs g c =
