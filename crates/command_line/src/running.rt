@@ -20,7 +20,6 @@ use job_commands::Status;
 use job_top::tapped;
 use plain_text::Text;
 use release_taps::{Seat, Split, split_taps};
-use std::alloc::Global;
 use std::rt::Files;
 use std::sync::Wait;
 use std::thread::Threads;
@@ -99,24 +98,19 @@ pub fn run_words<
         ⊎ HasRefused (λ w. (real_ledger w).write_faults) result.refused) }
 {
     match split_taps(words) {
-        Split::Plain => run_plain(rt, words, world, out, clock, gate),
-        Split::Bad => not_asked(rt.alloc(), world, out),
-        Split::Taps { pairs, .. } => run_tapped(rt, words, pairs, world, out, clock, gate),
-    }
-}
-
-/// What bad words come to.
-fn not_asked<T, X, W, V>(alloc: Global, world: W, out: V) -> Ran<W, V, T, X>
-    ensures status { result.status ≡ Status.BadWords }
-    ensures world { result.world ≡ world }
-    ensures out { result.out ≡ out }
-{
-    Ran {
-        status: Status::BadWords,
-        world,
-        out,
-        taps: Vec::new(alloc),
-        refused: None,
+        Split::Plain => return run_plain(rt, words, world, out, clock, gate),
+        Split::Bad => {
+            return Ran {
+                status: Status::BadWords,
+                world,
+                out,
+                taps: Vec::new(rt.alloc()),
+                refused: None,
+            };
+        }
+        Split::Taps { pairs, .. } => {
+            return run_tapped(rt, words, pairs, world, out, clock, gate);
+        }
     }
 }
 

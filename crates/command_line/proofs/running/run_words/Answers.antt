@@ -1,4 +1,4 @@
-use Rattle.std.proofs.Common.{◌≡◌, ◌⊎◌, ℕ, subst}
+use Rattle.std.proofs.Common.{◌≡◌, ◌⊎◌, ℕ, refl, subst}
 use Rattle.release_taps.proofs.Counting.{one_count}
 use Rattle.command_line.specs.Running.{IsNotBegun, TapsMirror}
 use Rattle.world_real.specs.Real.{real_ledger}
@@ -9,8 +9,7 @@ use Rattle.command_line.proofs.running.run_words.Goals as goal
 
 pub returns-in-Bad-clause-runs : goal.returns-in-Bad-clause-runs
 returns-in-Bad-clause-runs g c =
-    runs-bad _ _ _ _ _ _ _ _ c.not_asked.result.status c.args.world c.not_asked.result.world _ c.not_asked.ensures.world
-    c.in-Bad.ensures.0 c.in-Bad.ensures.1
+    runs-bad _ _ _ _ _ _ _ _ _ c.args.world c.args.world _ refl c.in-Bad.ensures.0 c.in-Bad.ensures.1
 
 pub returns-in-Plain-clause-runs : goal.returns-in-Plain-clause-runs
 returns-in-Plain-clause-runs g c =
