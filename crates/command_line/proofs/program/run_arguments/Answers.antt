@@ -89,7 +89,7 @@ returns-in-Some-clause-runs g c =
     (subst (λ w. IfOk c.args.arguments (λ all. w ≡ words_of all)) (sym c.as_slice-texts.ensures.value) c.in-Ok.ensures.words)
     (λ words. AskedNothing (Some c.in-Some.places) words BadWords c.of-world.result.calls) _
     (record {
-      cause = inr (refl, c.in-Some.ensures.within.0, c.in-Some.ensures.within.1, c.in-Some.ensures.differ);
+      cause = inr (refl, (c.in-Some.ensures.within.0, c.in-Some.ensures.within.1, c.in-Some.ensures.differ));
       none = ap (λ t. t.calls) c.of-world.ensures;
     })
 
@@ -99,7 +99,7 @@ returns-in-Some-clause-prints g c =
     (subst (λ w. IfOk c.args.arguments (λ all. w ≡ words_of all)) (sym c.as_slice-texts.ensures.value) c.in-Ok.ensures.words)
     (λ words. AskedNothing (Some c.in-Some.places) words BadWords c.of-world.result.calls) _
     (record {
-      cause = inr (refl, c.in-Some.ensures.within.0, c.in-Some.ensures.within.1, c.in-Some.ensures.differ);
+      cause = inr (refl, (c.in-Some.ensures.within.0, c.in-Some.ensures.within.1, c.in-Some.ensures.differ));
       none = ap (λ t. t.calls) c.of-world.ensures;
     })
 
@@ -109,7 +109,7 @@ returns-in-Some-clause-mirrors g c =
     (subst (λ w. IfOk c.args.arguments (λ all. w ≡ words_of all)) (sym c.as_slice-texts.ensures.value) c.in-Ok.ensures.words)
     (λ words. AskedNothing (Some c.in-Some.places) words BadWords c.of-world.result.calls) _
     (record {
-      cause = inr (refl, c.in-Some.ensures.within.0, c.in-Some.ensures.within.1, c.in-Some.ensures.differ);
+      cause = inr (refl, (c.in-Some.ensures.within.0, c.in-Some.ensures.within.1, c.in-Some.ensures.differ));
       none = ap (λ t. t.calls) c.of-world.ensures;
     })
 

@@ -26,7 +26,7 @@ pub returns-in-Plain-clause-read_fault : goal.returns-in-Plain-clause-read_fault
 returns-in-Plain-clause-read_fault g c =
     let ran = c.run_plain.ensures in
     plain-read_fault _ _ _ _ _ _ c.run_plain.result.refused c.args.words.now c.run_plain.result.status c.args.world
-    c.run_plain.result.world _ ran.performs ran.watches
+    c.run_plain.result.world (g.V.World.ledger c.run_plain.result.out) ran.performs ran.watches
 
 pub returns-in-Taps-clause-read_fault : goal.returns-in-Taps-clause-read_fault
 returns-in-Taps-clause-read_fault g c =
@@ -37,7 +37,7 @@ pub returns-in-Plain-clause-write_fault : goal.returns-in-Plain-clause-write_fau
 returns-in-Plain-clause-write_fault g c =
     let ran = c.run_plain.ensures in
     plain-write_fault _ _ _ _ _ _ c.run_plain.result.refused c.args.words.now c.run_plain.result.status c.args.world
-    c.run_plain.result.world _ ran.performs ran.watches
+    c.run_plain.result.world (g.V.World.ledger c.run_plain.result.out) ran.performs ran.watches
 
 pub returns-in-Taps-clause-write_fault : goal.returns-in-Taps-clause-write_fault
 returns-in-Taps-clause-write_fault g c =
