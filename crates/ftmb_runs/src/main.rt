@@ -12,15 +12,14 @@
 //! All other lines are for whoever reads the session.
 #![tactic(auto)]
 
-use command_line::{StatusText, one_file, read_words, run_words};
+use command_line::{Status, StatusText, one_file, read_words, run_words};
+use plain_text::Text;
 use std::alloc::{AllocError, Global};
 use std::env::Args;
 use std::rt::Files;
 use std::sync::Wait;
 use std::thread::Threads;
 use std::{env, fs, io};
-use plain_text::Text;
-use job_commands::Status;
 use var_locks::OpenGate;
 use world_io::FixedClock;
 use world_real::{RealWorld, Silence};
