@@ -11,7 +11,7 @@ use Rattle.world_io.specs.World.{Ledger, Start}
 use Rattle.world_told.specs.Events.{Event, WithCalls, shown_after}
 use Rattle.world_told.specs.Honest.{IsHonest}
 use Rattle.job_commands.specs.declared.status.Status.{Status}
-use Rattle.job_commands.specs.declared.status.Status.TheVariants.{NoMemory}
+use Rattle.job_commands.specs.declared.status.Status.TheVariants.{BadWords, NoMemory, ReadFault, WriteFault}
 use Rattle.job_top.specs.Answers.{Answers, AnswersBytes}
 use Rattle.release_taps.specs.Split.{AsksForTaps, behind_pairs}
 use Rattle.command_line.specs.Running.{AskedNothing, AsksToWatch, IsNotBegun, PrintsFiles, Runs, RunsFiles}
@@ -125,3 +125,13 @@ pub read : {A E : Type 0} (arguments : Result A E) (Asked : E → Type 0) → If
     → IfErr arguments Asked
 read (Ok all) Asked never = tt
 read (Err error) Asked never = absurd never
+
+-- where there are no words, no fault is told
+
+pub no_read_fault : (status : Status) → (status ≡ BadWords) ⊎ (status ≡ NoMemory) → status ≡ ReadFault → ⊥
+no_read_fault status (inl bad) is = let never : BadWords ≡ ReadFault = sym bad ∙ is in cc
+no_read_fault status (inr memory) is = let never : NoMemory ≡ ReadFault = sym memory ∙ is in cc
+
+pub no_write_fault : (status : Status) → (status ≡ BadWords) ⊎ (status ≡ NoMemory) → status ≡ WriteFault → ⊥
+no_write_fault status (inl bad) is = let never : BadWords ≡ WriteFault = sym bad ∙ is in cc
+no_write_fault status (inr memory) is = let never : NoMemory ≡ WriteFault = sym memory ∙ is in cc

@@ -9,8 +9,8 @@ use Rattle.world_told.specs.Sent.{name_of, sent_to}
 use Rattle.job_commands.specs.declared.status.Status.TheVariants.{BadWords}
 use Rattle.command_line.specs.Running.{AskedNothing, IsNotBegun, PrintsFiles, RunsFiles, TapsMirror}
 use Rattle.command_words.specs.Words.{Refuses, words_of}
-use Rattle.command_line.proofs.FilesRun.{asked_only, no_memory, not_begun, not_read, prints_files, read, runs_files}
-use Rattle.command_line.proofs.FilesRun.{with_words}
+use Rattle.command_line.proofs.FilesRun.{asked_only, no_memory, no_read_fault, no_write_fault, not_begun, not_read}
+use Rattle.command_line.proofs.FilesRun.{prints_files, read, runs_files, with_words}
 use Rattle.command_line.proofs.program.run_arguments.Goals as goal
 
 pub returns-clause-runs : goal.returns-clause-runs
@@ -115,3 +115,9 @@ returns-in-Some-clause-mirrors g c =
 
 pub returns-in-Some-clause-no_words : goal.returns-in-Some-clause-no_words
 returns-in-Some-clause-no_words g c = read c.args.arguments _ c.in-Ok.ensures.refused
+
+pub returns-in-Err-clause-read_fault : goal.returns-in-Err-clause-read_fault
+returns-in-Err-clause-read_fault g c is = absurd (no_read_fault c.in-Err.status c.in-Err.ensures.outcome is)
+
+pub returns-in-Err-clause-write_fault : goal.returns-in-Err-clause-write_fault
+returns-in-Err-clause-write_fault g c is = absurd (no_write_fault c.in-Err.status c.in-Err.ensures.outcome is)
