@@ -72,8 +72,8 @@ module _ {W X : Type 0} (honest : Start → W → Type 0) (shows : Start → W �
         bad_words = λ bad. either (AreBad words) (begins_watch words)
             (λ watch. inr (inr (inl (record { no_tap = no_tap; watch = watch }, (watches watch).bad_words bad))))
             (λ plain.
-                let none = (performs plain).bad_words bad in
-                inr (inr (inr (record { no_tap = no_tap; no_watch = plain }, none.0, none.1))));
+            let none = (performs plain).bad_words bad in
+            inr (inr (inr (record { no_tap = no_tap; no_watch = plain }, none.0, none.1))));
         nothing_asked = λ bad. either (new ≡ old) (begins_watch words) (λ watch. (watches watch).nothing_asked bad)
             (λ plain. (performs plain).nothing_asked bad);
         performs = λ asks. performs asks.no_watch;

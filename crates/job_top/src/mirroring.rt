@@ -96,14 +96,7 @@ pub fn tapped<
     C: Clock + Sync,
     G: Gate + Sync,
     R: AllocGlobal + Threads + Wait + Sync,
->(
-    rt: &R,
-    words: &[Text],
-    world: W,
-    taps: Vec<T>,
-    clock: &C,
-    gate: &G,
-) -> Result<TappedRun<W, T>, W>
+>(rt: &R, words: &[Text], world: W, taps: Vec<T>, clock: &C, gate: &G) -> Result<TappedRun<W, T>, W>
     requires asks { AsksForTaps words.now (length taps.items) }
     requires room { (W.ledger world).given < 2 ^ 31 }
     requires new_world { (file : ℕ) → (W.ledger world).created file ≡ false }

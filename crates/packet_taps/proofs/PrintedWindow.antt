@@ -81,9 +81,9 @@ module _ {W : Type 0} (honest : Start → W → Type 0) (shows : Start → W →
       let part = more p h in (
         length (lines_of before) + part.0,
         part.1
-        ∙ ap (λ l. l ++ take part.0 (line_of packet)) (printed p (earlier p h))
-        ∙ sym (take-append-add (lines_of before) (line_of packet) part.0)
-        ∙ ap (take (length (lines_of before) + part.0)) (sym (lines-one before packet)),
+            ∙ ap (λ l. l ++ take part.0 (line_of packet)) (printed p (earlier p h))
+            ∙ sym (take-append-add (lines_of before) (line_of packet) part.0)
+            ∙ ap (take (length (lines_of before) + part.0)) (sym (lines-one before packet)),
       )
 
 -- The faults of a tap after one line

@@ -91,7 +91,10 @@ fn seat_one<V: World + Drop>(
     quota: u64,
 ) -> Result<Deck<LineTap<V>>, V>
     ensures ok { IfOk result (λ deck. deck ≡ Place.Seated (record {
-        tap = record { world = out; faults = 0; lacks = 0 }; skip = skip; quota = quota }) ∷ []) }
+      tap = record { world = out; faults = 0; lacks = 0 };
+      skip = skip;
+      quota = quota;
+    }) ∷ []) }
     ensures err { IfErr result (λ back. back ≡ out) }
 {
     let Ok(mut deck) = Deck::new(alloc) else {

@@ -84,7 +84,7 @@ pub one_count : (words : List (List ℕ)) (a b : ℕ) → AsksForTaps words a �
 one_count words a b asks also =
     let not_fewer : (c d : ℕ) → AsksForTaps words c → AsksForTaps words d → c < d → ⊥ =
     λ c d asked more less.
-        (first_of_run (behind_pairs c words) asked.run).0 (at_front (2 * c) words ∙ more.taps c less) in
+    (first_of_run (behind_pairs c words) asked.run).0 (at_front (2 * c) words ∙ more.taps c less) in
     let below = not_fewer a b asks also in
     let above = not_fewer b a also asks in
     omega (arith, below, above)

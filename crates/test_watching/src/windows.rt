@@ -159,7 +159,12 @@ fn a_fault_of_reading_is_told(rt: HostRuntime) {
 
 #[test]
 fn each_line_is_printed(rt: HostRuntime) {
-    let all = prints(rt.alloc(), None, Printed::Watched(Watched::Done(3)), b"1 5 1\n2 6 1\n3 7 1\n");
+    let all = prints(
+        rt.alloc(),
+        None,
+        Printed::Watched(Watched::Done(3)),
+        b"1 5 1\n2 6 1\n3 7 1\n",
+    );
     assert!(rt; matches!(all, Ok(true)));
 }
 

@@ -6,7 +6,7 @@ returns-clause-took g c took before saw =
     let line = c.print.ensures in (
       took-faults c.print.result c.args.self.now c.print.new.self line.counts took saw.0,
       took-line g.W.World.honest g.W.World.shows c.args.packet.now c.args.self.now.world c.print.new.self.world
-      line.before before saw.1 (λ p h. line.prints p h took),
+          line.before before saw.1 (λ p h. line.prints p h took),
     )
 
 pub returns-clause-misses : goal.returns-clause-misses
@@ -14,5 +14,5 @@ returns-clause-misses g c missed before saw =
     let line = c.print.ensures in (
       misses-faults c.print.result c.args.self.now c.print.new.self _ _ line.counts line.cause saw.0,
       misses-line g.W.World.honest g.W.World.shows c.args.packet.now c.args.self.now.world c.print.new.self.world
-      line.before before saw.1 (λ p h. line.stops p h missed),
+          line.before before saw.1 (λ p h. line.stops p h missed),
     )
