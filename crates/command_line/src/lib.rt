@@ -11,9 +11,9 @@ mod running;
 
 pub use answering::perform;
 pub use command_words::{
-    Request, StatusText, asks_watch, help, one_file, read_request, read_words, tell_more, version,
-    watch_words,
+    Request, Status, StatusText, WatchedTo, asks_watch, help, one_file, read_request, read_words,
+    tell_more, version, watch_words,
 };
 pub use ending::exit_of;
-pub use program::run_program;
-pub use running::run_words;
+pub use program::{Ended, run_arguments, run_program};
+pub use running::{Ran, RealTap, SilentWorld, run_words};

@@ -1,25 +1,58 @@
-ghost use Rattle.std.specs.Prelude.{◌≡◌, ◌≤◌, ◌⊎◌};
+ghost use Rattle.std.specs.Prelude.{◌≡◌, ◌<◌, ◌≤◌, ◌⊎◌, ℕ, [], IfErr, IfOk};
+ghost use Rattle.std.specs.IoError.{error_kind};
 ghost use Rattle.std.specs.Process.{exit_status};
+ghost use Rattle.command_line.specs.Running.{AskedNothing, EndsWith, HasRefused, IsNotBegun};
+ghost use Rattle.command_line.specs.Running.{PrintsFiles, RunsFiles, TapsMirror};
+ghost use Rattle.command_words.specs.Words.{Refuses, words_of};
+ghost use Rattle.release_taps.specs.Split.{AsksForTaps};
+ghost use Rattle.world_real.specs.Real.{real_ledger};
+ghost use Rattle.world_told.specs.Events.{shown_after};
+ghost use Rattle.world_told.specs.Honest.{IsHonest};
+ghost use Rattle.world_told.specs.Sent.{name_of, sent_to};
 
-use crate::{exit_of, run_words};
-use command_words::{read_words, tell_more};
+use crate::{RealTap, SilentWorld, exit_of, run_words};
+use command_words::{one_file, read_words, tell_more};
 use job_commands::{Status, StatusText};
-use std::env;
+use plain_text::Text;
+use release_taps::Seat;
+use std::env::{self, Args};
+use std::io;
 use std::io::IsTerminal;
 use std::process::ExitCode;
 use std::rt::{self, Env, Files};
 use std::sync::Wait;
 use std::thread::Threads;
 use var_locks::OpenGate;
-use world_real::{ProgressLine, RealClock};
+use world_io::Clock;
+use world_real::{ProgressLine, RealClock, RealWorld, Silence};
+use world_told::Told;
 
-/// Takes away what stands in the line behind the cursor (ECMA-48, "erase in line").
+/// Takes away what stands in the line after the cursor (ECMA-48, "erase in line").
 const CLEAR_LINE: &str = "\x1b[K";
+
+/// What the program comes to.
+#[derive(Drop)]
+pub struct Ended<W, V, T, X> {
+    /// The number that it ends with.
+    pub code: ExitCode,
+    pub status: Status,
+    /// The files, with the record of their calls.
+    pub world: W,
+    /// Standard output, on which the lines of a watched capture were printed, with such a record.
+    pub out: V,
+    /// The taps, each in its seat; none where the run was not begun.
+    pub taps: Vec<Seat<T>>,
+    /// The files in which the one of a tap could not be created, which have counted a fault.
+    pub refused: Option<X>,
+    /// Two places of words that name one file, of which the second was to be written: what
+    /// `one_file` found.
+    pub same: Option<(usize, usize)>,
+}
 
 /// The program: does what its arguments ask for over the files of the system, by its clock and on
 /// its threads, tells what was not done, and ends with the number of the status, which is 9 at
 /// most. Standard error gets a line of progress, where it is a terminal.
-#[tactic(auto, using(crate::proofs::ExitCodes::most_exit_code))]
+#[tactic(auto, using(crate::proofs::ExitCodes::most_number))]
 pub fn run_program<
     R: Env
         + AllocGlobal
@@ -37,19 +70,103 @@ pub fn run_program<
     ensures number { exit_status result ≤ 9 }
 {
     let Ok(own) = rt.clone() else {
-        return exit_of(tell(rt, Status::NoMemory));
+        return end(rt, Status::NoMemory);
     };
     let clock = RealClock::new(own);
-    let words = match read_words(rt.alloc(), env::args(rt)) {
+    run_arguments(rt, env::args(rt), &clock, errors).code
+}
+
+/// Does what the arguments ask for over the files of the system, and gives back their record. Where the file of an
+/// output is seen to be that of another word (`one_file`), it does nothing.
+///
+/// The world of the files has a record of its calls. So what is promised by a beginning holds of the program: whatever
+/// bytes stood under the names when it began, if the system answered its reads as files with those bytes do.
+///
+/// It ends with `BadWords` where the arguments ask for nothing that it does, are no text, or name one file twice; with
+/// `ReadFault` and `WriteFault` where a world counted a fault; and with `NoMemory` where memory ran out.
+pub fn run_arguments<
+    'a,
+    R: AllocGlobal + Files + Print + Eprint + Threads + Wait + Sync,
+    C: Clock + Sync,
+    E: Eprint + IsTerminal,
+>(
+    rt: &'a R,
+    arguments: io::Result<Args>,
+    clock: &'a C,
+    errors: &'a E,
+) -> Ended<
+    Told<RealWorld<&'a R, ProgressLine<'a, C, E>>>,
+    Told<SilentWorld<'a, R>>,
+    RealTap<'a, R>,
+    SilentWorld<'a, R>,
+>
+    ensures number { EndsWith result.status (exit_status result.code) }
+    ensures runs { IfOk arguments (λ all.
+        AskedNothing result.same (words_of all) result.status result.world.calls
+        ⊎ RunsFiles (C.may clock.now) (λ w. (real_ledger w).write_faults) result.refused
+        (words_of all) result.status result.world.calls) }
+    ensures prints { IfOk arguments (λ all.
+        AskedNothing result.same (words_of all) result.status result.world.calls
+        ⊎ PrintsFiles (words_of all) result.status result.world.calls result.out.calls) }
+    ensures mirrors { IfOk arguments (λ all.
+        AskedNothing result.same (words_of all) result.status result.world.calls
+        ⊎ ((pairs : ℕ) → AsksForTaps (words_of all) pairs
+        → IsNotBegun (λ w. (real_ledger w).write_faults) result.refused result.status
+        [] result.world.calls ⊎ TapsMirror (λ p t. IsHonest p t.calls)
+        (λ p t. shown_after p t.calls) (λ t. real_ledger t.world)
+        (λ t. (t.faults ≡ 0) × (t.lacks ≡ 0)) (λ t. sent_to t.file t.world.calls)
+        (λ t. t.faults) (λ t. t.lacks) (λ t. name_of t.file t.world.calls)
+        (words_of all) pairs result.world result.taps.items)) }
+    ensures no_words { IfErr arguments (λ error.
+        Refuses (error_kind error) result.status × (result.world.calls ≡ [])) }
+    ensures read_fault { result.status ≡ Status.ReadFault
+        → 0 < (real_ledger result.world.world).read_faults }
+    ensures write_fault { result.status ≡ Status.WriteFault
+        → (0 < (real_ledger result.world.world).write_faults)
+        ⊎ ((0 < (real_ledger result.out.world).write_faults)
+        ⊎ HasRefused (λ w. (real_ledger w).write_faults) result.refused) }
+{
+    let line = ProgressLine::new(clock, errors);
+    let world = Told::of(RealWorld::new(rt.alloc(), rt, line));
+    let out = Told::of(RealWorld::new(rt.alloc(), rt, Silence));
+    let words = match read_words(rt.alloc(), arguments) {
         Ok(words) => words,
-        Err(status) => return exit_of(tell(rt, status)),
+        Err(status) => {
+            return Ended {
+                code: end(rt, status),
+                status,
+                world,
+                out,
+                taps: Vec::new(rt.alloc()),
+                refused: None,
+                same: None,
+            };
+        }
     };
-    let line = ProgressLine::new(&clock, errors);
-    let status = run_words(rt, words.as_slice(), &clock, &OpenGate, line);
+    let texts = words.as_slice();
+    if let Some(places) = one_file(rt, texts) {
+        end_line(errors);
+        return Ended {
+            code: end_more(rt, texts, Status::BadWords),
+            status: Status::BadWords,
+            world,
+            out,
+            taps: Vec::new(rt.alloc()),
+            refused: None,
+            same: Some(places),
+        };
+    }
+    let run = run_words(rt, texts, world, out, clock, &OpenGate);
     end_line(errors);
-    let status = tell(rt, status);
-    let _ = tell_more(rt, words.as_slice(), status);
-    exit_of(status)
+    Ended {
+        code: end_more(rt, texts, run.status),
+        status: run.status,
+        world: run.world,
+        out: run.out,
+        taps: run.taps,
+        refused: run.refused,
+        same: None,
+    }
 }
 
 /// Takes a line of progress away, where there may be one.
@@ -57,6 +174,24 @@ fn end_line<E: Eprint + IsTerminal>(errors: &E) {
     if errors.is_terminal() {
         let _ = errors.eprint(CLEAR_LINE);
     }
+}
+
+/// Tells what was not done, and ends with the number of the status.
+#[tactic(auto, using(crate::proofs::ExitCodes::ends_with))]
+fn end<R: Eprint>(rt: &R, status: Status) -> ExitCode
+    ensures { EndsWith status (exit_status result) }
+{
+    exit_of(tell(rt, status))
+}
+
+/// Tells what was not done, and what helps, and ends with the number of the status.
+#[tactic(auto, using(crate::proofs::ExitCodes::ends_with))]
+fn end_more<R: AllocGlobal + Files + Eprint>(rt: &R, words: &[Text], status: Status) -> ExitCode
+    ensures { EndsWith status (exit_status result) }
+{
+    let told = tell(rt, status);
+    let _ = tell_more(rt, words, told);
+    exit_of(told)
 }
 
 /// Tells on standard error what was not done. The status stays, unless telling fails.

@@ -1,119 +1,269 @@
-ghost use Rattle.std.specs.Prelude.{◌≡◌, ◌≤◌, ◌*◌, ◌⊎◌, ℕ, [], IfOk, IfErr, None, false, length};
+ghost use Rattle.std.specs.Prelude.{◌≡◌, ◌<◌, ◌≤◌, ◌*◌, ◌^◌, ◌⊎◌, ℕ, [], IfOk, IfErr, IfSome, None, true};
+ghost use Rattle.std.specs.Prelude.{false, length};
 ghost use Rattle.job_commands.specs.Words.{asked};
+ghost use Rattle.command_line.specs.Performing.{PerformsIn, WatchesIn};
+ghost use Rattle.command_line.specs.Running.{AreNamed, AsksToWatch, HasRefused, IsNotBegun, Runs};
+ghost use Rattle.command_line.specs.Running.{TapsMirror};
 ghost use Rattle.command_words.specs.Printing.{asked_text};
-ghost use Rattle.command_words.specs.Watching.{begins_watch};
-ghost use Rattle.release_taps.specs.Split.{AsksForTaps, BeginsWithTap};
+ghost use Rattle.command_words.specs.Watching.{PrintsLines, begins_watch};
+ghost use Rattle.job_top.specs.Answers.{Answers};
+ghost use Rattle.packet_taps.specs.Lines.{HasPrinted};
+ghost use Rattle.release_taps.specs.Split.{AsksForTaps, BeginsWithTap, behind_pairs};
 ghost use Rattle.release_taps.specs.Seats.{AllFresh};
+ghost use Rattle.world_io.specs.World.{Start};
+ghost use Rattle.world_real.specs.Real.{real_ledger};
+ghost use Rattle.world_told.specs.Sent.{name_of, sent_to};
 
 use crate::perform;
-use command_words::{asks_watch, one_file, watch_words};
+use command_words::{asks_watch, watch_words};
 use job_commands::Status;
 use job_top::tapped;
-use plain_text::{NoMemory, Text};
-use release_taps::{Split, split_taps};
+use plain_text::Text;
+use release_taps::{Seat, Split, split_taps};
 use std::rt::Files;
 use std::sync::Wait;
 use std::thread::Threads;
 use var_locks::Gate;
-use world_io::Clock;
-use world_real::{FileTap, Notice, RealWorld, Silence};
-use world_told::Told;
+use world_io::{Clock, OpenFault, World};
+use world_real::{RealWorld, Silence};
+use world_told::ToldTap;
 
-/// Does what the words ask for over the files of the system: performs them; or, where pairs
-/// `tap NAME` stand in front, runs what stands behind them and mirrors the released capture under
-/// each name; or, where the first word is `watch`, prints a line for each packet of a window. Where
-/// the file of an output is seen to be that of another word (`one_file`), it does nothing. The
-/// notice is told how much is written.
+/// The files of the system, where nothing is told of what is written.
+pub type SilentWorld<'a, R> = RealWorld<&'a R, Silence>;
+
+/// A tap on a file of the system.
+pub type RealTap<'a, R> = ToldTap<SilentWorld<'a, R>>;
+
+/// What a run of the words came to, and what it leaves.
+#[derive(Drop)]
+pub struct Ran<W, V, T, X> {
+    pub status: Status,
+    /// The world in which the command ran.
+    pub world: W,
+    /// The world on whose report the lines of a watched capture are printed.
+    pub out: V,
+    /// The taps, each in its seat; none where the run was not begun.
+    pub taps: Vec<Seat<T>>,
+    /// The world in which the file of a tap could not be created, which has counted a fault.
+    pub refused: Option<X>,
+}
+
+/// Does what the words ask for over the files of a world: performs them; or, where pairs
+/// `tap NAME` stand in front, runs what stands after them and mirrors the released capture under
+/// each name; or, where the first word is `watch`, prints a line for each packet of a window on the
+/// report of the other world.
 ///
-/// The files stand in a world with a record of its calls. So what `perform`, `tapped` and
-/// `watch_words` promise by a beginning holds of the program: whatever bytes stood under the names
-/// when it began, if the system answered its reads as files with those bytes do.
+/// It ends with `BadWords` only where the words ask for nothing that it does, and with `WriteFault` or
+/// `ReadFault` only where a world counted a fault.
 pub fn run_words<
+    'a,
+    W: World + Drop,
+    V: World + Drop,
     C: Clock + Sync,
     G: Gate + Sync,
-    N: Notice + Drop,
     R: AllocGlobal + Files + Print + Threads + Wait + Sync,
->(rt: &R, words: &[Text], clock: &C, gate: &G, notice: N) -> Status
+>(
+    rt: &'a R,
+    words: &[Text],
+    world: W,
+    out: V,
+    clock: &C,
+    gate: &G,
+) -> Ran<W, V, RealTap<'a, R>, SilentWorld<'a, R>>
+    requires room { (W.ledger world).given < 2 ^ 31 }
+    requires new_world { (file : ℕ) → (W.ledger world).created file ≡ false }
+    requires fresh { HasPrinted V.honest V.shows [] out }
+    ensures runs { Runs W.honest W.shows W.ledger W.healthy (C.may clock.now)
+        (λ w. (real_ledger w).write_faults) result.refused words.now result.status world
+        result.world (V.ledger result.out) }
+    ensures prints { AsksToWatch words.now
+        → PrintsLines W.honest W.shows W.healthy V.honest V.shows words.now
+        result.status world result.world result.out }
+    ensures prints_nothing { ¬ AsksToWatch words.now → result.out ≡ out }
+    ensures mirrors { (pairs : ℕ) → AsksForTaps words.now pairs
+        → IsNotBegun (λ w. (real_ledger w).write_faults) result.refused result.status
+        world result.world ⊎ TapsMirror W.honest W.shows W.ledger
+        (λ t. (t.faults ≡ 0) × (t.lacks ≡ 0)) (λ t. sent_to t.file t.world.calls)
+        (λ t. t.faults) (λ t. t.lacks) (λ t. name_of t.file t.world.calls)
+        words.now pairs result.world result.taps.items }
     ensures bad_taps { BeginsWithTap words.now → ((pairs : ℕ) → ¬ AsksForTaps words.now pairs)
-        → result ≡ Status.BadWords }
+        → result.status ≡ Status.BadWords }
     ensures no_command { ¬ BeginsWithTap words.now
         → asked words.now ≡ None → asked_text words.now ≡ None
-        → begins_watch words.now ≡ false → result ≡ Status.BadWords }
+        → begins_watch words.now ≡ false → result.status ≡ Status.BadWords }
+    ensures read_fault { result.status ≡ Status.ReadFault
+        → 0 < (W.ledger result.world).read_faults }
+    ensures write_fault { result.status ≡ Status.WriteFault
+        → (0 < (W.ledger result.world).write_faults) ⊎ ((0 < (V.ledger result.out).write_faults)
+        ⊎ HasRefused (λ w. (real_ledger w).write_faults) result.refused) }
 {
-    if one_file(rt, words).is_some() {
-        return Status::BadWords;
-    }
     match split_taps(words) {
-        Split::Plain => run_plain(rt, words, clock, gate, notice),
-        Split::Bad => Status::BadWords,
-        Split::Taps { pairs, .. } => run_tapped(rt, words, pairs, clock, gate, notice),
+        Split::Plain => return run_plain(rt, words, world, out, clock, gate),
+        Split::Bad => {
+            return Ran {
+                status: Status::BadWords,
+                world,
+                out,
+                taps: Vec::new(rt.alloc()),
+                refused: None,
+            };
+        }
+        Split::Taps { pairs, .. } => {
+            return run_tapped(rt, words, pairs, world, out, clock, gate);
+        }
     }
 }
 
-/// Performs the words, or watches a capture. What is watched is printed through a world that is
+/// Performs the words, or watches a capture. What is watched is printed through the world that is
 /// there for nothing else.
 fn run_plain<
+    T,
+    X,
+    W: World + Drop,
+    V: World + Drop,
     C: Clock + Sync,
     G: Gate + Sync,
-    N: Notice + Drop,
-    R: AllocGlobal + Files + Print + Threads + Wait + Sync,
->(rt: &R, words: &[Text], clock: &C, gate: &G, notice: N) -> Status
+    R: AllocGlobal + Threads + Wait + Sync,
+>(rt: &R, words: &[Text], world: W, out: V, clock: &C, gate: &G) -> Ran<W, V, T, X>
+    requires room { (W.ledger world).given < 2 ^ 31 }
+    requires fresh { HasPrinted V.honest V.shows [] out }
+    ensures performs { begins_watch words.now ≡ false → PerformsIn W.honest W.shows W.ledger
+        W.healthy (C.may clock.now) words.now result.status world result.world }
+    ensures watches { begins_watch words.now ≡ true → WatchesIn W.honest W.shows W.ledger
+        W.healthy words.now result.status world result.world (V.ledger result.out) }
+    ensures prints { begins_watch words.now ≡ true → PrintsLines W.honest W.shows W.healthy
+        V.honest V.shows words.now result.status world result.world result.out }
+    ensures prints_nothing { begins_watch words.now ≡ false → result.out ≡ out }
     ensures no_command { asked words.now ≡ None → asked_text words.now ≡ None
-        → begins_watch words.now ≡ false → result ≡ Status.BadWords }
+        → begins_watch words.now ≡ false → result.status ≡ Status.BadWords }
 {
-    let mut world = Told::of(RealWorld::new(rt.alloc(), rt, notice));
+    let mut world = world;
     if asks_watch(words) {
-        return watch_words(
-            rt.alloc(),
-            words,
-            &mut world,
-            RealWorld::new(rt.alloc(), rt, Silence),
-        );
+        let watched = watch_words(rt.alloc(), words, &mut world, out);
+        return Ran {
+            status: watched.status,
+            world,
+            out: watched.out,
+            taps: Vec::new(rt.alloc()),
+            refused: None,
+        };
     }
-    perform(rt, words, &mut world, clock, gate)
+    let status = perform(rt, words, &mut world, clock, gate);
+    Ran {
+        status,
+        world,
+        out,
+        taps: Vec::new(rt.alloc()),
+        refused: None,
+    }
 }
 
-/// Runs what stands behind the pairs. Each tap writes to the file of its name, which is created
+/// Runs what stands after the pairs. Each tap writes to the file of its name, which is created
 /// before the command begins.
 fn run_tapped<
+    'a,
+    W: World + Drop,
+    V: World + Drop,
     C: Clock + Sync,
     G: Gate + Sync,
-    N: Notice + Drop,
     R: AllocGlobal + Files + Print + Threads + Wait + Sync,
->(rt: &R, words: &[Text], pairs: usize, clock: &C, gate: &G, notice: N) -> Status
-    requires { AsksForTaps words.now pairs }
+>(
+    rt: &'a R,
+    words: &[Text],
+    pairs: usize,
+    world: W,
+    out: V,
+    clock: &C,
+    gate: &G,
+) -> Ran<W, V, RealTap<'a, R>, SilentWorld<'a, R>>
+    requires asks { AsksForTaps words.now pairs }
+    requires room { (W.ledger world).given < 2 ^ 31 }
+    requires new_world { (file : ℕ) → (W.ledger world).created file ≡ false }
+    ensures answers { IsNotBegun (λ w. (real_ledger w).write_faults) result.refused
+        result.status world result.world ⊎ Answers W.honest W.shows W.ledger
+        W.healthy (C.may clock.now) (behind_pairs pairs words.now)
+        result.status world result.world }
+    ensures prints_nothing { result.out ≡ out }
+    ensures mirrors { IsNotBegun (λ w. (real_ledger w).write_faults) result.refused
+        result.status world result.world ⊎ TapsMirror W.honest W.shows W.ledger
+        (λ t. (t.faults ≡ 0) × (t.lacks ≡ 0)) (λ t. sent_to t.file t.world.calls)
+        (λ t. t.faults) (λ t. t.lacks) (λ t. name_of t.file t.world.calls)
+        words.now pairs result.world result.taps.items }
 {
     let taps = match create_taps(rt, words, pairs) {
         Ok(taps) => taps,
-        Err(status) => return status,
+        Err(refused) => {
+            return Ran {
+                status: status_without(&refused),
+                world,
+                out,
+                taps: Vec::new(rt.alloc()),
+                refused,
+            };
+        }
     };
-    let world = Told::of(RealWorld::new(rt.alloc(), rt, notice));
     match tapped(rt, words, world, taps, clock, gate) {
-        Ok(run) => run.status,
-        Err(NoMemory) => Status::NoMemory,
+        Ok(run) => Ran {
+            status: run.status,
+            world: run.rest.world,
+            out,
+            taps: run.rest.seats,
+            refused: None,
+        },
+        Err(world) => Ran {
+            status: Status::NoMemory,
+            world,
+            out,
+            taps: Vec::new(rt.alloc()),
+            refused: None,
+        },
     }
 }
 
-/// A tap on a file for each name, in order.
-fn create_taps<R: AllocGlobal + Files>(
-    rt: &R,
+/// The status where taps could not be created: of a write fault where a world refused a file, and
+/// else of want of memory.
+fn status_without<X>(refused: &Option<X>) -> Status
+    ensures refused { IfSome refused.now (λ _. result ≡ Status.WriteFault) }
+    ensures memory { refused.now ≡ None → result ≡ Status.NoMemory }
+{
+    match refused {
+        Some(_) => Status::WriteFault,
+        None => Status::NoMemory,
+    }
+}
+
+/// A tap on a file for each name, in order, each in a world of its own; or the world that refused a
+/// file, or none where memory ran out.
+#[tactic(auto, using(crate::proofs::Runs::rose_some))]
+fn create_taps<'a, R: AllocGlobal + Files + Print>(
+    rt: &'a R,
     words: &[Text],
     pairs: usize,
-) -> Result<Vec<FileTap<R>>, Status>
+) -> Result<Vec<RealTap<'a, R>>, Option<SilentWorld<'a, R>>>
     requires { 2 * pairs ≤ length words.now }
     ensures count { IfOk result (λ taps. length taps.items ≡ pairs) }
+    ensures named { IfOk result (λ taps. AreNamed
+        (λ t. name_of t.file t.world.calls) words.now taps.items) }
     ensures fresh { IfOk result
-        (λ taps. AllFresh (λ _. ⊥) (λ _. []) (λ t. t.faults) (λ _. 0) taps.items) }
-    ensures status { IfErr result
-        (λ status. (status ≡ Status.WriteFault) ⊎ (status ≡ Status.NoMemory)) }
+        (λ taps. AllFresh (λ t. (t.faults ≡ 0) × (t.lacks ≡ 0))
+        (λ t. sent_to t.file t.world.calls) (λ t. t.faults) (λ t. t.lacks) taps.items) }
+    ensures refused { IfErr result
+        (λ refused. IfSome refused (λ w. 0 < (real_ledger w).write_faults)) }
 {
     let mut taps = Vec::new(rt.alloc());
     for pair in 0..pairs {
-        let Ok(tap) = FileTap::create(rt, &words[2 * pair + 1]) else {
-            return Err(Status::WriteFault);
+        let world = RealWorld::new(rt.alloc(), rt, Silence);
+        let tap = match ToldTap::create(world, &words[2 * pair + 1]) {
+            Ok(tap) => tap,
+            Err(refused) => {
+                return match refused.fault {
+                    OpenFault::Failed => Err(Some(refused.world)),
+                    OpenFault::NoMemory => Err(None),
+                };
+            }
         };
         if taps.push(tap).is_err() {
-            return Err(Status::NoMemory);
+            return Err(None);
         }
     }
     Ok(taps)

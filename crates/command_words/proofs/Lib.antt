@@ -1,2 +1,1 @@
 pub mod Untapped
-pub mod WatchedWords

@@ -1,11 +1,14 @@
 -- What the program comes to where it watches a capture.
 use Rattle.std.specs.Prelude.{◌≡◌, ℕ, Bool, false, List, [], ◌∷◌, codes, IfSome}
 use Rattle.std.specs.Str.{bytes_eq}
-use Rattle.world_io.specs.World.{Shown}
+use Rattle.plain_text.specs.declared.packet.Packet.{Packet}
+use Rattle.world_io.specs.World.{Shown, Start}
+use Rattle.packet_taps.specs.declared.command.Watched.{Watched}
 use Rattle.packet_taps.specs.declared.command.Watched.TheVariants as watched
 use Rattle.packet_taps.specs.declared.printing.Printed.{Printed}
 use Rattle.packet_taps.specs.declared.printing.Printed.TheVariants as printed
-use Rattle.packet_taps.specs.Printing.{JudgesPrinted}
+use Rattle.packet_taps.specs.Printing.{JudgesPrinted, PrintsWindow}
+use Rattle.packet_taps.specs.Watching.{JudgesWatched}
 use Rattle.packet_taps.specs.Words.{watch_names}
 use Rattle.job_commands.specs.declared.status.Status.{Status}
 use Rattle.job_commands.specs.declared.status.Status.TheVariants as status
@@ -31,3 +34,13 @@ abbrev pub Watches : Type 0 → List (List ℕ) → Status → Shown → Type 0
 Watches healthy words ended shown =
     (answer : Printed) × (ended ≡ watch_status answer)
     × IfSome (watch_names words) (λ names. JudgesPrinted healthy names.capture answer shown)
+
+-- The status is that of an answer, and the lines of the window of the capture's packets were printed: all of them, or a
+-- first part.
+abbrev pub PrintsLines : {W V : Type 0} → (Start → W → Type 0) → (Start → W → Shown) → (W → Type 0)
+    → (Start → V → Type 0) → (Start → V → Shown) → List (List ℕ) → Status → W → W → V → Type 0
+PrintsLines honest shows healthy honest_out shows_out words ended old new out =
+    (answer : Printed) × (ended ≡ watch_status answer)
+    × IfSome (watch_names words) (λ names. PrintsWindow honest_out shows_out names answer
+    (λ packets watched. (p : Start) → honest p new
+    → JudgesWatched (healthy old) names.capture packets watched (shows p old)) out)

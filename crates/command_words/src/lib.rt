@@ -22,5 +22,5 @@ pub use named_file::{NamedFile, Names, Node};
 pub use request::{Request, read_request};
 pub use telling::tell_more;
 pub use usage::{help, version};
-pub use watching::{asks_watch, watch_words};
+pub use watching::{WatchedTo, asks_watch, watch_words};
 pub use words::read_words;

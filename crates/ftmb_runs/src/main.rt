@@ -5,14 +5,15 @@
 //! - `$ ftmb WORDS`: the command, performed as the program performs it; its report, and how the program ends.
 //! - `write NAME: LINES`: a file is written; a semicolon stands for the end of a line.
 //! - `hex NAME: PARTS`: a file is written of parts, one after the other: hexadecimal digits, or `@` and another file's name.
-//! - `text NAME`: the lines of a file, a semicolon behind each.
+//! - `text NAME`: the lines of a file, a semicolon after each.
 //! - `bytes NAME`: the bytes of a file, in hexadecimal digits, 16 on a line.
 //! - `same NAME NAME ..`: whether these files have the same bytes, or the first one that has others.
 //!
 //! All other lines are for whoever reads the session.
 #![tactic(auto)]
 
-use command_line::{StatusText, read_words, run_words};
+use command_line::{Status, StatusText, one_file, read_words, run_words};
+use plain_text::Text;
 use std::alloc::{AllocError, Global};
 use std::env::Args;
 use std::rt::Files;
@@ -21,7 +22,8 @@ use std::thread::Threads;
 use std::{env, fs, io};
 use var_locks::OpenGate;
 use world_io::FixedClock;
-use world_real::Silence;
+use world_real::{RealWorld, Silence};
+use world_told::Told;
 
 /// What the clock answers in each session, in microseconds.
 const TIME: u64 = 100_000_006;
@@ -35,6 +37,19 @@ fn arguments(alloc: Global, words: &str) -> Result<Args, AllocError> {
     Ok(arguments.into_iter())
 }
 
+/// Performs the words over the files of the system.
+fn perform_words<R: AllocGlobal + Files + Print + Threads + Wait + Sync>(
+    rt: &R,
+    words: &[Text],
+) -> Status {
+    if one_file(rt, words).is_some() {
+        return Status::BadWords;
+    }
+    let world = Told::of(RealWorld::new(rt.alloc(), rt, Silence));
+    let out = Told::of(RealWorld::new(rt.alloc(), rt, Silence));
+    run_words(rt, words, world, out, &FixedClock(TIME), &OpenGate).status
+}
+
 /// Performs a command, and prints the number and the text of the status that the program ends with.
 fn run<R: AllocGlobal + Files + Print + Threads + Wait + Sync>(
     rt: &R,
@@ -42,14 +57,14 @@ fn run<R: AllocGlobal + Files + Print + Threads + Wait + Sync>(
 ) -> io::Result<()> {
     let arguments = arguments(rt.alloc(), words)?;
     let status = match read_words(rt.alloc(), Ok(arguments)) {
-        Ok(words) => run_words(rt, words.as_slice(), &FixedClock(TIME), &OpenGate, Silence),
+        Ok(words) => perform_words(rt, words.as_slice()),
         Err(status) => status,
     };
     let number = status.exit_code();
     println!(rt; "{number}: {}", StatusText(status))
 }
 
-/// Writes a file: its name, and behind a colon its lines.
+/// Writes a file: its name, and after a colon its lines.
 fn write<R: AllocGlobal + Files + Print>(rt: &R, file: &str) -> io::Result<()> {
     let Some((name, lines)) = file.split_once(": ") else {
         return println!(rt; "no name");

@@ -20,7 +20,9 @@ use Rattle.live_command.specs.Plans.{LivesWhole, LivesToLimit, LivesInOrder}
 use Rattle.job_commands.specs.declared.live_inputs.LiveInputs.{LiveInputs}
 use Rattle.job_commands.specs.declared.status.Status.{Status}
 use Rattle.job_commands.specs.declared.status.Status.TheVariants as status
+use Rattle.input_files.specs.Judging.{PlanTooLarge}
 use Rattle.job_commands.specs.Live.{AcceptsLiveInputs, JudgesLiveFiles}
+use Rattle.job_commands.specs.Turns.{FirstIsTooLarge}
 use Rattle.job_commands.specs.Status.{Stage, AtWords, AtInputs, AtOutputs, AtAnyTime}
 use Rattle.job_commands.specs.Words.{LiveNames}
 
@@ -94,10 +96,11 @@ LivesFiles may names old new =
     × AcceptsLiveInputs names inputs old
     × LivesWhole (live_setting inputs) may inputs.plan (live_outputs names) old new
 
--- Nothing was written, since an input passes the limit; or the run stopped at it.
+-- Nothing was written, and the first input that is not accepted passes the limit; or the run stopped at it.
 abbrev pub LivesLimit : LiveNames → Limit → Shown → Shown → Type 0
 LivesLimit names limit old new =
-    KeepsShown old new
+    (KeepsShown old new
+    × FirstIsTooLarge names.box_file names.capture (PlanTooLarge names.plan limit old) limit old)
     ⊎ ((inputs : LiveInputs)
     × AcceptsLiveInputs names inputs old
     × LivesToLimit (live_setting inputs) inputs.plan (live_outputs names) limit old new)

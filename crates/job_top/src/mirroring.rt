@@ -1,12 +1,12 @@
-ghost use Rattle.std.specs.Prelude.{◌≡◌, ◌<◌, ◌*◌, ◌^◌, ℕ, false, length, IfOk};
+ghost use Rattle.std.specs.Prelude.{◌≡◌, ◌<◌, ◌*◌, ◌^◌, ℕ, false, length, map, IfErr, IfOk};
 ghost use Rattle.release_taps.specs.Mirrored.{IsMirroring};
-ghost use Rattle.release_taps.specs.Seats.{AllFresh};
+ghost use Rattle.release_taps.specs.Seats.{AllFresh, labels_of};
 ghost use Rattle.job_top.specs.Answers.{Answers};
 ghost use Rattle.release_taps.specs.Split.{AsksForTaps, behind_pairs, released_name};
 
 use crate::ftmb;
 use job_commands::Status;
-use plain_text::{NoMemory, Text};
+use plain_text::Text;
 use release_taps::{Seating, Tap, TapWorld, Untapped, mirrored_name, run_line};
 use std::marker::Brand;
 use std::sync::Wait;
@@ -37,6 +37,7 @@ fn run_mirrored<
     ensures mirrors { IsMirroring W.honest W.shows W.ledger T.tells T.seen T.fault_count T.lack_count
         S.file_name result.rest.mirrored result.rest.world result.rest.seats.items }
     ensures seats { length result.rest.seats.items ≡ S.seat_count }
+    ensures labels { labels_of T.label result.rest.seats.items ≡ S.labels }
 {
     let mut tapped = world;
     let status = ftmb(rt, words, &mut tapped, clock, gate);
@@ -62,49 +63,46 @@ fn seat_and_run<
     taps: Vec<T>,
     clock: &C,
     gate: &G,
-) -> Result<TappedRun<W, T>, NoMemory>
+) -> Result<TappedRun<W, T>, W>
     requires room { (W.ledger world).given < 2 ^ 31 }
     requires new_world { (file : ℕ) → (W.ledger world).created file ≡ false }
     requires fresh { AllFresh T.tells T.seen T.fault_count T.lack_count taps.items }
     requires name { name ≡ S.file_name }
     requires count { length taps.items ≡ S.seat_count }
+    requires labels { map T.label taps.items ≡ S.labels }
     ensures answers { IfOk result (λ run. Answers W.honest W.shows W.ledger W.healthy
         (C.may clock.now) words.now run.status world run.rest.world) }
     ensures mirrors { IfOk result (λ run. IsMirroring W.honest W.shows W.ledger
         T.tells T.seen T.fault_count T.lack_count
         S.file_name run.rest.mirrored run.rest.world run.rest.seats.items) }
     ensures seats { IfOk result (λ run. length run.rest.seats.items ≡ S.seat_count) }
+    ensures labels { IfOk result (λ run. labels_of T.label run.rest.seats.items ≡ S.labels) }
+    ensures world_back { IfErr result (λ back. back ≡ world) }
 {
     let tapped = TapWorld::<W, T, S>::new(rt.alloc(), world, name, taps)?;
     Ok(run_mirrored(rt, words, tapped, clock, gate))
 }
 
-/// Runs what stands behind the pairs `tap NAME`, and shows each tap the bytes that the released
+/// Runs what stands after the pairs `tap NAME`, and shows each tap the bytes that the released
 /// capture took.
 ///
 /// A tap that fails is shown nothing more, keeps its seat, and changes nothing for the command: its
-/// status and its files are those that `ftmb` promises of the words behind the pairs. The world has
-/// created no file before. After want of memory, world and taps are gone, and nothing was done.
+/// status and its files are those that `ftmb` promises of the words after the pairs. The world has
+/// created no file before. After want of memory the taps are gone, and the world, of which nothing was
+/// asked, is given back.
 pub fn tapped<
     W: World + Drop,
     T: Tap,
     C: Clock + Sync,
     G: Gate + Sync,
     R: AllocGlobal + Threads + Wait + Sync,
->(
-    rt: &R,
-    words: &[Text],
-    world: W,
-    taps: Vec<T>,
-    clock: &C,
-    gate: &G,
-) -> Result<TappedRun<W, T>, NoMemory>
+>(rt: &R, words: &[Text], world: W, taps: Vec<T>, clock: &C, gate: &G) -> Result<TappedRun<W, T>, W>
     requires asks { AsksForTaps words.now (length taps.items) }
     requires room { (W.ledger world).given < 2 ^ 31 }
     requires new_world { (file : ℕ) → (W.ledger world).created file ≡ false }
     requires fresh { AllFresh T.tells T.seen T.fault_count T.lack_count taps.items }
 
-    // All that the top call promises of the words behind the pairs.
+    // All that the top call promises of the words after the pairs.
     ensures answers { IfOk result (λ run. Answers W.honest W.shows W.ledger W.healthy
         (C.may clock.now) (behind_pairs (length taps.items) words.now)
         run.status world run.rest.world) }
@@ -115,9 +113,14 @@ pub fn tapped<
         T.tells T.seen T.fault_count T.lack_count (released_name (length taps.items) words.now)
         run.rest.mirrored run.rest.world run.rest.seats.items) }
     ensures seats { IfOk result (λ run. length run.rest.seats.items ≡ length taps.items) }
+    ensures labels { IfOk result
+        (λ run. labels_of T.label run.rest.seats.items ≡ map T.label taps.items) }
+    ensures world_back { IfErr result (λ back. back ≡ world) }
 {
     let pairs = taps.len();
-    let name = Text::of(rt.alloc(), mirrored_name(words, pairs).as_str())?;
+    let Ok(name) = Text::of(rt.alloc(), mirrored_name(words, pairs).as_str()) else {
+        return Err(world);
+    };
     let line = run_line(words, pairs);
     seat_and_run::<W, T, C, G, R, Brand>(rt, line, world, name, taps, clock, gate)
 }

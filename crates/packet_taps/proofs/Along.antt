@@ -14,12 +14,12 @@ some-same {X} {x} same = cc
 le-refl : (n : ℕ) → n ≤ n
 le-refl n = omega arith
 
-module _ {T : Type 0} (tells : T → Type 0) (seen : T → List Packet) (faults lacks : T → ℕ) (packets : List Packet) where
+module _ {T : Type 0} (saw missed : T → List Packet → Type 0) (faults lacks : T → ℕ) (packets : List Packet) where
   -- the taps before this place were shown the packets, and the others not yet
   pub record AreShownTo (index : ℕ) (old new : List (Place T)) : Type 0 where
     pub count : length new ≡ length old
     pub before : (k : ℕ) (place : Place T) → k < index → slice_get new k ≡ Some place
-        → (was : Place T) × (slice_get old k ≡ Some was) × IsShown tells seen faults lacks packets was place
+        → (was : Place T) × (slice_get old k ≡ Some was) × IsShown saw missed faults lacks packets was place
     pub behind : (k : ℕ) → index ≤ k → slice_get new k ≡ slice_get old k
 
   pub shown-none : (places : List (Place T)) → AreShownTo 0 places places
@@ -30,7 +30,7 @@ module _ {T : Type 0} (tells : T → Type 0) (seen : T → List Packet) (faults 
   }
 
   pub shown-next : (index : ℕ) (old new : List (Place T)) (was place : Place T) → AreShownTo index old new
-      → slice_get new index ≡ Some was → IsShown tells seen faults lacks packets was place
+      → slice_get new index ≡ Some was → IsShown saw missed faults lacks packets was place
       → AreShownTo (index + 1) old (set new index place)
   shown-next index old new was place to here shown = record {
     count = length-set new index place ∙ to.count;
@@ -42,7 +42,7 @@ module _ {T : Type 0} (tells : T → Type 0) (seen : T → List Packet) (faults 
           ∙ slice_get-set_same new index was place here) in (
             was,
             ap (λ j. slice_get old j) at ∙ sym (to.behind index (le-refl index)) ∙ here,
-            subst (λ (s : Place T). IsShown tells seen faults lacks packets was s) (sym is) shown,
+            subst (λ (s : Place T). IsShown saw missed faults lacks packets was s) (sym is) shown,
           )
       | inr differ ↦
           let apart : k ≢ index = eqb-false k index differ in
@@ -54,7 +54,7 @@ module _ {T : Type 0} (tells : T → Type 0) (seen : T → List Packet) (faults 
   }
 
   pub shown-all : (index : ℕ) (old new : List (Place T)) → length new ≤ index → AreShownTo index old new
-      → AreShown tells seen faults lacks packets old new
+      → AreShown saw missed faults lacks packets old new
   shown-all index old new all to = record {
     count = to.count;
     each = λ k place there.

@@ -5,6 +5,7 @@ use Rattle.plain_text.specs.declared.packet.Packet.{Packet}
 use Rattle.world_io.specs.World.{Shown, Start}
 use Rattle.packet_taps.specs.declared.command.Watched.{Watched}
 use Rattle.packet_taps.specs.declared.command.Watched.TheVariants as watched
+use Rattle.packet_taps.specs.declared.printing.Printed.TheVariants as printed
 use Rattle.packet_taps.specs.declared.place.Place.{Place}
 use Rattle.packet_taps.specs.Places.{HasShown}
 use Rattle.packet_taps.specs.Printing.{ended_with, JudgesPrinted, HasJudged}
@@ -28,13 +29,19 @@ judged_ended healthy name shown packets (watched.BadInput fault) lost judged = (
 judged_ended healthy name shown packets (watched.TooLarge limit) lost judged = (packets, judged)
 
 -- and so for the words that name it
-pub judged_names : {T : Type 0} (tells : T → Type 0) (seen : T → List Packet) (faults lacks : T → ℕ) (healthy : Type 0)
+pub judged_names : {T : Type 0} (saw missed : T → List Packet → Type 0) (faults lacks : T → ℕ) (healthy : Type 0)
     (honest : Start → Type 0) (shows : Start → Shown) (answer : Watched) (lost : Option Bool)
     (before after : List (Place T)) (names : Option WatchNames)
-    → IfSome names (λ it. HasShown tells seen faults lacks
+    → IfSome names (λ it. HasShown saw missed faults lacks
     (λ packets. (p : Start) → honest p → JudgesWatched healthy it.capture packets answer (shows p)) before after)
     → (p : Start) → honest p
     → IfSome names (λ it. JudgesPrinted healthy it.capture (ended_with answer lost) (shows p))
-judged_names tells seen faults lacks healthy honest shows answer lost before after None shown p h = tt
-judged_names tells seen faults lacks healthy honest shows answer lost before after (Some it) shown p h =
+judged_names saw missed faults lacks healthy honest shows answer lost before after None shown p h = tt
+judged_names saw missed faults lacks healthy honest shows answer lost before after (Some it) shown p h =
     judged_ended healthy it.capture (shows p) shown.packets answer lost (shown.told p h)
+
+-- want of memory before anything was read
+pub nothing_judged_names : (healthy : Type 0) (shown : Shown) (names : Option WatchNames)
+    → IfSome names (λ it. JudgesPrinted healthy it.capture (printed.Watched watched.NoMemory) shown)
+nothing_judged_names healthy shown None = tt
+nothing_judged_names healthy shown (Some it) = nothing_judged healthy it.capture shown

@@ -19,8 +19,8 @@ use Rattle.packet_taps.specs.Watching.{AreFirst}
 
 -- These packets were read, and shown to the taps.
 pub record HasWatched {S T : Type 0} (reads : S → List ℕ → S → Type 0) (honest : Start → S → Type 0)
-    (remains : Start → S → List ℕ) (source_faults : S → ℕ) (healthy : S → Type 0) (tells : T → Type 0)
-    (seen : T → List Packet) (faults lacks : T → ℕ) (old now : S) (reader : Format) (before after : List (Place T))
+    (remains : Start → S → List ℕ) (source_faults : S → ℕ) (healthy : S → Type 0)
+    (saw missed : T → List Packet → Type 0) (faults lacks : T → ℕ) (old now : S) (reader : Format) (before after : List (Place T))
     (count : ℕ) : Type 0 where
   pub packets : List Packet
   pub read : HasReadAny reads old now reader packets
@@ -28,7 +28,7 @@ pub record HasWatched {S T : Type 0} (reads : S → List ℕ → S → Type 0) (
   pub some : TakesSome reads old now
   pub octets : All IsOfBytes packets
   pub goes_on : GoesOn source_faults healthy old now
-  pub shown : AreShown tells seen faults lacks packets before after
+  pub shown : AreShown saw missed faults lacks packets before after
   pub counted : count ≡ length packets
 
 -- what was read are the first packets, where the answers are honest here

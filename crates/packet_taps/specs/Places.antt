@@ -1,5 +1,5 @@
 -- What becomes of taps in their places when packets are shown.
-use Rattle.std.specs.Prelude.{◌≡◌, ℕ, ◌<◌, ◌≤◌, true, false, List, ◌++◌, Option, Some, None, length, take}
+use Rattle.std.specs.Prelude.{◌≡◌, ℕ, suc, ◌<◌, ◌≤◌, true, false, List, ◌++◌, Option, Some, None, length, take}
 use Rattle.std.specs.Prelude.{slice_get, slice_set}
 use Rattle.plain_text.specs.declared.packet.Packet.{Packet}
 use Rattle.world_io.specs.Stream.{Rose}
@@ -20,23 +20,22 @@ abbrev pub TakesOut : {T : Type 0} → ℕ → Option (Taken T) → List (Place 
 TakesOut seat None old new = ¬ IsSeatedAt old seat × (new ≡ old)
 TakesOut seat (Some taken) old new = (slice_get old seat ≡ Some (Seated taken)) × (new ≡ slice_set old seat Out)
 
-module _ {T : Type 0} (tells : T → Type 0) (seen : T → List Packet) (faults lacks : T → ℕ) where
-  -- A tap that stays was shown, after what it had, the window of these packets by its numbers. They go on behind them.
+module _ {T : Type 0} (saw missed : T → List Packet → Type 0) (faults lacks : T → ℕ) where
+  -- A tap that stays was shown, after what it had, the window of these packets by its numbers. They go on after them.
   pub record Stays (packets : List Packet) (old new : Taken T) : Type 0 where
-    pub told : tells new.tap → tells old.tap
-    pub seen_window : tells new.tap → seen new.tap ≡ seen old.tap ++ window old.skip old.quota packets
+    pub saw_window : (before : List Packet) → saw old.tap before
+        → saw new.tap (before ++ window old.skip old.quota packets)
     pub faults_kept : faults old.tap ≤ faults new.tap
     pub lacks_kept : lacks old.tap ≤ lacks new.tap
     pub skip : new.skip ≡ skip_behind old.skip (length packets)
     pub quota : new.quota ≡ quota_behind old.skip old.quota (length packets)
 
-  -- A tap that is lost was shown a first part of the window, and did not take the packet behind it. It counted why.
+  -- A tap that is lost was shown a first part of the window, and did not take the packet after it. It counted why.
   pub record IsLost (packets : List Packet) (old : Taken T) (lost : LostPacket T) : Type 0 where
-    pub told : tells lost.object → tells old.tap
     pub count : ℕ
     pub within : count < length (window old.skip old.quota packets)
-    pub seen_first : tells lost.object
-        → seen lost.object ≡ seen old.tap ++ take count (window old.skip old.quota packets)
+    pub missed_next : (before : List Packet) → saw old.tap before
+        → missed lost.object (before ++ take (suc count) (window old.skip old.quota packets))
     pub failed : lost.memory ≡ false → Rose (faults old.tap) (faults lost.object)
     pub lacked : lost.memory ≡ true → Rose (lacks old.tap) (lacks lost.object)
 

@@ -4,9 +4,9 @@ use release_taps::Shown;
 
 /// A boxed packet tap is a packet tap, so that one deck can seat taps of several types.
 impl PacketTap for Box<dyn PacketTap> {
-    ghost tells = { λ b. (PacketTap-box b).tells b.value };
+    ghost saw = { λ b. (PacketTap-box b).saw b.value };
 
-    ghost seen = { λ b. (PacketTap-box b).seen b.value };
+    ghost missed = { λ b. (PacketTap-box b).missed b.value };
 
     ghost fault_count = { λ b. (PacketTap-box b).fault_count b.value };
 

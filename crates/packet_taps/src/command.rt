@@ -47,7 +47,7 @@ pub fn watch<W: World, T: PacketTap>(
     ensures world_stays { result ≡ Watched.BadWords → world.new ≡ world.old }
     ensures deck_stays { result ≡ Watched.BadWords → deck.new ≡ deck.old }
     ensures shown { IfSome (watch_names words.now) (λ names.
-        HasShown T.tells T.seen T.fault_count T.lack_count (λ packets. (p : Start)
+        HasShown T.saw T.missed T.fault_count T.lack_count (λ packets. (p : Start)
         → W.honest p world.new → JudgesWatched (W.healthy world.old) names.capture packets
         result (W.shows p world.old)) deck.old deck.new) }
     ensures read_fault { result ≡ Watched.ReadFault
@@ -72,7 +72,7 @@ fn watch_file<W: World, T: PacketTap>(
 ) -> Watched
     requires { (W.ledger world.old).given < 2 ^ 32 - 1 }
     ensures words { ¬ (result ≡ Watched.BadWords) }
-    ensures shown { HasShown T.tells T.seen T.fault_count T.lack_count (λ packets. (p : Start)
+    ensures shown { HasShown T.saw T.missed T.fault_count T.lack_count (λ packets. (p : Start)
         → W.honest p world.new → JudgesWatched (W.healthy world.old) name.now packets
         result (W.shows p world.old)) deck.old deck.new }
     ensures read_fault { result ≡ Watched.ReadFault

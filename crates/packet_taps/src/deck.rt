@@ -42,7 +42,7 @@ impl<T: PacketTap> Deck<T> {
         })
     }
 
-    /// Seats a tap in the next seat: so many packets pass it by, and of those behind them it is shown at most so many.
+    /// Seats a tap in the next seat: so many packets pass it by, and of those after them it is shown at most so many.
     ///
     /// After want of memory the deck is as it was.
     pub fn seat(&mut self, tap: T, skip: u64, quota: u64) -> Result<u32, Unseated<T>>
@@ -65,7 +65,7 @@ impl<T: PacketTap> Deck<T> {
     /// Shows a packet to each tap that sits in the deck, in the order of the seats: first a tap's packets pass it by,
     /// then it is shown as many as its window has. A tap that does not take one is lost. The deck takes no memory.
     pub fn show(&mut self, packet: &Packet)
-        ensures { AreShown T.tells T.seen T.fault_count T.lack_count (packet.now ∷ [])
+        ensures { AreShown T.saw T.missed T.fault_count T.lack_count (packet.now ∷ [])
             self.old self.new }
     {
         show_each(&mut self.places, packet);
@@ -89,6 +89,13 @@ impl<T: PacketTap> Deck<T> {
         ensures { result.now ≡ self.now }
     {
         self.places.as_slice()
+    }
+
+    /// The places, in order: the deck is taken apart.
+    pub fn into_places(self) -> Vec<Place<T>>
+        ensures { result.items ≡ self }
+    {
+        self.places
     }
 
     /// The tap that sits in a seat. None where none does.
@@ -116,7 +123,7 @@ impl<T: PacketTap> Deck<T> {
 
 /// Shows a packet to the tap of each place, in order.
 fn show_each<T: PacketTap>(places: &mut [Place<T>], packet: &Packet)
-    ensures { AreShown T.tells T.seen T.fault_count T.lack_count (packet.now ∷ [])
+    ensures { AreShown T.saw T.missed T.fault_count T.lack_count (packet.now ∷ [])
         places.old places.new }
 {
     for place in places.iter_mut() {

@@ -19,11 +19,11 @@ pub fn window_goes_on()
 /// its seat.
 pub fn seating_again_goes_on<T: PacketTap>()
     ensures stays { (first rest : List Packet) (old mid new : Taken T)
-        → Stays T.tells T.seen T.fault_count T.lack_count first old mid
-        → Stays T.tells T.seen T.fault_count T.lack_count rest mid new
-        → Stays T.tells T.seen T.fault_count T.lack_count (first ++ rest) old new }
+        → Stays T.saw T.missed T.fault_count T.lack_count first old mid
+        → Stays T.saw T.missed T.fault_count T.lack_count rest mid new
+        → Stays T.saw T.missed T.fault_count T.lack_count (first ++ rest) old new }
     ensures lost { (first rest : List Packet) (old mid : Taken T) (lost : LostPacket T)
-        → Stays T.tells T.seen T.fault_count T.lack_count first old mid
-        → IsLost T.tells T.seen T.fault_count T.lack_count rest mid lost
-        → IsLost T.tells T.seen T.fault_count T.lack_count (first ++ rest) old lost }
+        → Stays T.saw T.missed T.fault_count T.lack_count first old mid
+        → IsLost T.saw T.missed T.fault_count T.lack_count rest mid lost
+        → IsLost T.saw T.missed T.fault_count T.lack_count (first ++ rest) old lost }
 {}

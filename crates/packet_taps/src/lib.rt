@@ -20,6 +20,6 @@ pub use deck::{Deck, Unseated};
 pub use laws::{seating_again_goes_on, window_goes_on};
 pub use line_tap::LineTap;
 pub use place::{LostPacket, Place, Taken};
-pub use printing::{Printed, print_watched};
+pub use printing::{Printed, PrintedTo, print_watched};
 pub use tap::PacketTap;
 pub use words::{WatchWords, read_watch_words};

@@ -1,6 +1,8 @@
-ghost use Rattle.std.specs.Prelude.{◌≡◌, ◌++◌, IfOk};
+ghost use Rattle.std.specs.Prelude.{◌≡◌, ◌++◌, ◌∷◌, [], ℕ, List, IfOk, take};
+ghost use Rattle.plain_text.specs.declared.packet.Packet.{Packet};
+ghost use Rattle.world_io.specs.Stream.{Rose};
 ghost use Rattle.world_io.specs.World.{Start};
-ghost use Rattle.packet_taps.specs.Lines.{Counts, line_of};
+ghost use Rattle.packet_taps.specs.Lines.{Counts, MissedLine, SawLines, line_of};
 
 use crate::PacketTap;
 use plain_text::{Bytes, NoMemory, Packet, put_u64};
@@ -12,7 +14,8 @@ use world_io::{World, WorldSink, WriteError, write_all};
 /// A tap that prints a line for each packet on the report of its own world: `SECONDS FRACTION LENGTH`, where the
 /// fraction is as the packet has it and the length is that of the captured bytes.
 ///
-/// It tells nothing of what it was shown. Where printing fails, a first part of a line may stand there.
+/// On a report on which nothing stood it says that the lines of what it was shown stand there. Where printing fails, a
+/// first part of a line may stand after them.
 #[derive(Drop)]
 pub struct LineTap<W> {
     alloc: Global,
@@ -42,12 +45,25 @@ impl<W: World + Drop> LineTap<W> {
         }
     }
 
+    /// The world on whose report it printed.
+    pub fn into_world(self) -> W
+        ensures { result ≡ self.world }
+    {
+        self.world
+    }
+
     /// Prints the line of a packet, and counts why not.
     fn print(&mut self, packet: &Packet) -> Shown
         ensures counts { Counts result self.old self.new }
         ensures prints { (p : Start) → W.honest p self.new.world → result ≡ Shown.Took
             → (W.shows p self.new.world).sent 0
             ≡ (W.shows p self.old.world).sent 0 ++ line_of packet.now }
+        ensures stops { (p : Start) → W.honest p self.new.world → ¬ (result ≡ Shown.Took)
+            → (k : ℕ) × ((W.shows p self.new.world).sent 0
+            ≡ (W.shows p self.old.world).sent 0 ++ take k (line_of packet.now)) }
+        ensures cause { result ≡ Shown.Failed → Rose (W.ledger self.old.world).write_faults
+            (W.ledger self.new.world).write_faults }
+        ensures before { (p : Start) → W.honest p self.new.world → W.honest p self.old.world }
     {
         let shown = print_line(self.alloc, &mut self.world, packet);
         match shown {
@@ -63,6 +79,12 @@ impl<W: World + Drop> LineTap<W> {
 fn print_line<W: World>(alloc: Global, world: &mut W, packet: &Packet) -> Shown
     ensures prints { (p : Start) → W.honest p world.new → result ≡ Shown.Took
         → (W.shows p world.new).sent 0 ≡ (W.shows p world.old).sent 0 ++ line_of packet.now }
+    ensures stops { (p : Start) → W.honest p world.new → ¬ (result ≡ Shown.Took)
+        → (k : ℕ) × ((W.shows p world.new).sent 0
+        ≡ (W.shows p world.old).sent 0 ++ take k (line_of packet.now)) }
+    ensures cause { result ≡ Shown.Failed
+        → Rose (W.ledger world.old).write_faults (W.ledger world.new).write_faults }
+    ensures before { (p : Start) → W.honest p world.new → W.honest p world.old }
 {
     let Ok(line) = make_line(alloc, packet) else {
         return Shown::NoMemory;
@@ -90,17 +112,23 @@ fn make_line(alloc: Global, packet: &Packet) -> Result<Bytes, NoMemory>
 }
 
 impl<W: World + Drop> PacketTap for LineTap<W> {
-    ghost use Rattle.std.specs.Prelude.{[]};
+    ghost use Rattle.packet_taps.specs.Lines.{MissedLine, SawLines};
 
-    ghost tells = { λ _. ⊥ };
+    ghost saw = { λ t packets. SawLines W.honest W.shows packets t };
 
-    ghost seen = { λ _. [] };
+    ghost missed = { λ t packets. MissedLine W.honest W.shows W.ledger packets t };
 
     ghost fault_count = { λ t. t.faults };
 
     ghost lack_count = { λ t. t.lacks };
 
     fn show(&mut self, packet: &Packet) -> Shown
+        ensures took { result ≡ Shown.Took → (before : List Packet)
+            → SawLines W.honest W.shows before self.old
+            → SawLines W.honest W.shows (before ++ packet.now ∷ []) self.new }
+        ensures misses { ¬ (result ≡ Shown.Took) → (before : List Packet)
+            → SawLines W.honest W.shows before self.old
+            → MissedLine W.honest W.shows W.ledger (before ++ packet.now ∷ []) self.new }
         ensures counts { Counts result self.old self.new }
 
         // Beyond any tap: what it prints.

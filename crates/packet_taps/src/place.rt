@@ -5,7 +5,7 @@ use crate::PacketTap;
 use plain_text::Packet;
 use release_taps::Shown;
 
-/// A tap with its window: how many packets still pass it by, and how many of those behind them it is still shown.
+/// A tap with its window: how many packets still pass it by, and how many of those after them it is still shown.
 #[derive(Drop)]
 pub struct Taken<T> {
     pub tap: T,
@@ -35,7 +35,7 @@ pub enum Place<T> {
 impl<T: PacketTap> Taken<T> {
     /// Shows the tap a packet, where it falls into the window.
     fn shown(self, packet: &Packet) -> Place<T>
-        ensures { Follows T.tells T.seen T.fault_count T.lack_count (packet.now ∷ []) self result }
+        ensures { Follows T.saw T.missed T.fault_count T.lack_count (packet.now ∷ []) self result }
     {
         let Taken {
             mut tap,
@@ -73,7 +73,7 @@ impl<T: PacketTap> Taken<T> {
 impl<T: PacketTap> Place<T> {
     /// Shows a packet to the tap that sits there, if one does.
     pub(crate) fn shown(self, packet: &Packet) -> Place<T>
-        ensures { IsShown T.tells T.seen T.fault_count T.lack_count (packet.now ∷ []) self result }
+        ensures { IsShown T.saw T.missed T.fault_count T.lack_count (packet.now ∷ []) self result }
     {
         match self {
             Place::Seated(taken) => taken.shown(packet),

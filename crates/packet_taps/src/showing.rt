@@ -21,7 +21,7 @@ fn show_capture<S: Source, T: PacketTap>(
     ensures cause { result ≡ Watched.ReadFault
         → HasFailed S.faults S.healthy source.old source.new }
     ensures words { ¬ (result ≡ Watched.BadWords) }
-    ensures shown { HasShown T.tells T.seen T.fault_count T.lack_count (λ packets. (p : Start)
+    ensures shown { HasShown T.saw T.missed T.fault_count T.lack_count (λ packets. (p : Start)
         → S.honest p source.new → SaysWatched (S.remains p source.old) packets result)
         deck.old deck.new }
 {
@@ -61,7 +61,7 @@ pub(crate) fn show_buffered<S: Source, T: PacketTap>(
     ensures cause { result ≡ Watched.ReadFault
         → HasFailed S.faults S.healthy source.old source.new }
     ensures words { ¬ (result ≡ Watched.BadWords) }
-    ensures shown { HasShown T.tells T.seen T.fault_count T.lack_count (λ packets. (p : Start)
+    ensures shown { HasShown T.saw T.missed T.fault_count T.lack_count (λ packets. (p : Start)
         → S.honest p source.new → SaysWatched (S.remains p source.old) packets result)
         deck.old deck.new }
 {

@@ -7,13 +7,13 @@ use release_taps::Shown;
 
 /// Something that is shown packets, one at a time, and may fail.
 ///
-/// A tap may tell which packets it was shown. One that prints them can't.
+/// What it says of the packets that it was shown is its own: that it has them, or that their lines were printed.
 pub trait PacketTap: Drop {
-    /// That the packets which it was shown are known.
-    ghost tells: { Self → Type 0 };
+    /// That it took these packets, in order, and no other.
+    ghost saw: { Self → List Packet → Type 0 };
 
-    /// The packets that it was shown, in order, where it tells.
-    ghost seen: { Self → List Packet };
+    /// That it took these packets but for the last, in order, and then failed at the last.
+    ghost missed: { Self → List Packet → Type 0 };
 
     /// How often it failed. A count at 2^64 - 1 stays there.
     ghost fault_count: { Self → ℕ };
@@ -23,11 +23,10 @@ pub trait PacketTap: Drop {
 
     /// Shows it the next packet: it takes the whole, or nothing.
     fn show(&mut self, packet: &Packet) -> Shown
-        ensures told { tells self.new → tells self.old }
-        ensures took { result ≡ Shown.Took → tells self.new
-            → seen self.new ≡ seen self.old ++ packet.now ∷ [] }
-        ensures took_nothing { ¬ (result ≡ Shown.Took) → tells self.new
-            → seen self.new ≡ seen self.old }
+        ensures took { result ≡ Shown.Took → (before : List Packet) → saw self.old before
+            → saw self.new (before ++ packet.now ∷ []) }
+        ensures misses { ¬ (result ≡ Shown.Took) → (before : List Packet) → saw self.old before
+            → missed self.new (before ++ packet.now ∷ []) }
         ensures failed { result ≡ Shown.Failed
             → Rose (fault_count self.old) (fault_count self.new) }
         ensures lacked { result ≡ Shown.NoMemory

@@ -10,7 +10,7 @@ pub struct WatchWords<'a> {
     pub capture: &'a Text,
     /// How many packets pass by the tap that the program seats.
     pub skip: u64,
-    /// How many packets behind those it is shown at most.
+    /// How many packets after those it is shown at most.
     pub quota: u64,
 }
 

@@ -69,12 +69,22 @@ pub word_at : (words : List (List ℕ)) (k : ℕ) (word : List ℕ) → k < leng
     → slice_get words k ≡ Some word
 word_at words k word within is = slice_get-get_or words k word within ∙ ap Some (sym is)
 
--- the words behind this many, as a slice of all of them
+-- the words after this many, as a slice of all of them
 pub behind_is : (n : ℕ) (words : List (List ℕ)) → take (length words - n) (drop n words) ≡ drop n words
 behind_is n words = ap (λ k. take k (drop n words)) (sym (length-drop n words)) ∙ take-length (drop n words)
 
--- words that ask for taps are long enough for the run line behind them
+-- words that ask for taps are long enough for the run line after them
 pub enough : (words : List (List ℕ)) (pairs : ℕ) → AsksForTaps words pairs → 2 * pairs + 6 ≤ length words
 enough words pairs asks =
     let long = (first_of_run (behind_pairs pairs words) asks.run).1 in
     omega (arith, long, length-drop (2 * pairs) words)
+
+-- words ask for one number of taps
+pub one_count : (words : List (List ℕ)) (a b : ℕ) → AsksForTaps words a → AsksForTaps words b → a ≡ b
+one_count words a b asks also =
+    let not_fewer : (c d : ℕ) → AsksForTaps words c → AsksForTaps words d → c < d → ⊥ =
+    λ c d asked more less.
+    (first_of_run (behind_pairs c words) asked.run).0 (at_front (2 * c) words ∙ more.taps c less) in
+    let below = not_fewer a b asks also in
+    let above = not_fewer b a also asks in
+    omega (arith, below, above)

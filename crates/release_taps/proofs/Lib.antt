@@ -1,3 +1,3 @@
-mod Counting
+pub mod Counting
 pub mod Mirroring
 pub mod Showing

@@ -1,10 +1,10 @@
 -- What becomes of seats when their taps are shown bytes, one after the other.
-use Rattle.std.proofs.Common.{◌≡◌, ◌≢◌, ◌<◌, ◌≤◌, ℕ, zero, suc, List, [], ◌∷◌, Some, length, set, slice_get}
+use Rattle.std.proofs.Common.{◌≡◌, ◌≢◌, ◌<◌, ◌≤◌, ℕ, zero, suc, List, [], ◌∷◌, Some, length, map, set, slice_get}
 use Rattle.std.proofs.Common.{◌+◌, ◌==◌, inl, inr, refl, sym, ap, ◌∙◌, subst, arith, length-set}
 use Rattle.std.proofs.lemmas.Bool.{cases_Bool, eqb-true, eqb-false}
 use Rattle.std.proofs.lemmas.Option.{slice_get_within}
 use Rattle.release_taps.specs.declared.seat.Seat.{Seat}
-use Rattle.release_taps.specs.Seats.{IsShown, AreShown}
+use Rattle.release_taps.specs.Seats.{IsShown, AreShown, labels_of, seated}
 
 some-same : {X : Type 0} {x y : X} → Some x ≡ Some y → x ≡ y
 some-same {X} {x} same = cc
@@ -25,6 +25,21 @@ slice_get-set_other (z ∷ zs) zero zero y differ = absurd (differ refl)
 slice_get-set_other (z ∷ zs) zero (suc j) y differ = refl
 slice_get-set_other (z ∷ zs) (suc i) zero y differ = refl
 slice_get-set_other (z ∷ zs) (suc i) (suc j) y differ = slice_get-set_other zs i j y (λ e. differ (ap suc e))
+
+-- the labels stay where a seat is set that has the same
+pub labels-set : {T : Type 0} (label : T → List ℕ) (seats : List (Seat T)) (i : ℕ) (was new : Seat T)
+    → slice_get seats i ≡ Some was → label new.tap ≡ label was.tap
+    → labels_of label (set seats i new) ≡ labels_of label seats
+labels-set label [] i was new there same = refl
+labels-set label (z ∷ seats) zero was new there same =
+    ap (λ l. l ∷ labels_of label seats) (same ∙ ap (λ (s : Seat _). label s.tap) (sym (some-same there)))
+labels-set label (z ∷ seats) (suc i) was new there same =
+    ap (λ l. label z.tap ∷ l) (labels-set label seats i was new there same)
+
+-- those of taps that were seated
+pub labels-seated : {T : Type 0} (label : T → List ℕ) (taps : List T) → labels_of label (map seated taps) ≡ map label taps
+labels-seated label [] = refl
+labels-seated label (tap ∷ taps) = ap (λ l. label tap ∷ l) (labels-seated label taps)
 
 module _ {T : Type 0} (tells : T → Type 0) (seen : T → List ℕ) (faults lacks : T → ℕ) (bytes : List ℕ) where
   -- the taps before this place were shown the bytes, and the others not yet

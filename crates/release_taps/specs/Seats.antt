@@ -1,11 +1,15 @@
 -- What is known of taps in their seats, each with the answer that its tap gave last.
-use Rattle.std.specs.Prelude.{◌≡◌, ℕ, ◌<◌, List, [], ◌++◌, Some, length, take, slice_get}
+use Rattle.std.specs.Prelude.{◌≡◌, ℕ, ◌<◌, List, [], ◌++◌, Some, length, map, take, slice_get}
 use Rattle.release_taps.specs.declared.seat.Seat.{Seat}
 use Rattle.release_taps.specs.declared.tap.Shown.TheVariants.{Took, Failed, NoMemory}
 
 -- a tap in its seat that was shown nothing yet
 abbrev pub seated : {T : Type 0} → T → Seat T
 seated tap = record { tap = tap; last = Took }
+
+-- what the taps are called, in the order of their seats
+abbrev pub labels_of : {T : Type 0} → (T → List ℕ) → List (Seat T) → List (List ℕ)
+labels_of label seats = map (λ s. label s.tap) seats
 
 module _ {T : Type 0} (tells : T → Type 0) (seen : T → List ℕ) (faults lacks : T → ℕ) where
   -- Where it tells, a tap that is there has seen these bytes, and one that is lost a first part of them. A lost one has

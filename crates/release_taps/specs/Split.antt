@@ -14,7 +14,7 @@ IsRunLine [] = ⊥
 IsRunLine (command ∷ names) =
     ((command ≡ codes "run") × (length names ≡ 5)) ⊎ ((command ≡ codes "live") × (length names ≡ 6))
 
--- the words behind this many pairs
+-- the words after this many pairs
 abbrev pub behind_pairs : ℕ → List (List ℕ) → List (List ℕ)
 behind_pairs pairs words = drop (2 * pairs) words
 
@@ -22,7 +22,7 @@ behind_pairs pairs words = drop (2 * pairs) words
 abbrev pub released_place : ℕ
 released_place = 4
 
--- the name of the released capture that the run line behind this many pairs has
+-- the name of the released capture that the run line after this many pairs has
 abbrev pub released_name : ℕ → List (List ℕ) → List ℕ
 released_name pairs words = slice_index_or words (2 * pairs + released_place) []
 
@@ -30,7 +30,7 @@ released_name pairs words = slice_index_or words (2 * pairs + released_place) []
 abbrev pub IsAlone : List (List ℕ) → ℕ → Type 0
 IsAlone words place = (j : ℕ) → j < length words → ¬ (j ≡ place) → ¬ (slice_get words j ≡ slice_get words place)
 
--- The words are 1 to 64 pairs of `tap` and a name, and behind them `run` or `live` with its names; and no tap has a
+-- The words are 1 to 64 pairs of `tap` and a name, and after them `run` or `live` with its names; and no tap has a
 -- name that is another word of the line.
 pub record AsksForTaps (words : List (List ℕ)) (pairs : ℕ) : Type 0 where
   pub some : 1 ≤ pairs

@@ -10,6 +10,8 @@ impl Tap for Box<dyn Tap> {
 
     ghost lack_count = { λ b. (Tap-box b).lack_count b.value };
 
+    ghost label = { λ b. (Tap-box b).label b.value };
+
     fn show(&mut self, piece: &[u8]) -> Shown {
         (**self).show(piece)
     }

@@ -80,7 +80,7 @@ impl MemoryTap {
 }
 
 impl Tap for MemoryTap {
-    ghost use Rattle.std.specs.Prelude.{⊤};
+    ghost use Rattle.std.specs.Prelude.{⊤, []};
 
     ghost tells = { λ _. ⊤ };
 
@@ -89,6 +89,8 @@ impl Tap for MemoryTap {
     ghost fault_count = { λ t. t.faults };
 
     ghost lack_count = { λ t. t.lacks };
+
+    ghost label = { λ _. [] };
 
     fn show(&mut self, piece: &[u8]) -> Shown
         ensures records { Records self.old piece.now result self.new }

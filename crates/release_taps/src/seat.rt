@@ -1,5 +1,5 @@
 ghost use Rattle.std.specs.Prelude.{◌≡◌, map, IfOk};
-ghost use Rattle.release_taps.specs.Seats.{AreShown, seated};
+ghost use Rattle.release_taps.specs.Seats.{AreShown, labels_of, seated};
 
 use crate::{Shown, Tap};
 use plain_text::NoMemory;
@@ -18,7 +18,8 @@ impl<T: Tap> Seat<T> {
 
     /// Shows the tap these bytes, if it is there.
     pub(crate) fn show(&mut self, piece: &[u8])
-        ensures { IsShown T.tells T.seen T.fault_count T.lack_count piece.now self.old self.new }
+        ensures same_label { T.label self.new.tap ≡ T.label self.old.tap }
+        ensures shown { IsShown T.tells T.seen T.fault_count T.lack_count piece.now self.old self.new }
     {
         if let Shown::Took = self.last {
             self.last = self.tap.show(piece);
@@ -28,7 +29,8 @@ impl<T: Tap> Seat<T> {
 
 /// Shows these bytes to each tap that is there, in order.
 pub(crate) fn show_each<T: Tap>(seats: &mut [Seat<T>], piece: &[u8])
-    ensures { AreShown T.tells T.seen T.fault_count T.lack_count piece.now seats.old seats.new }
+    ensures same_labels { labels_of T.label seats.new ≡ labels_of T.label seats.old }
+    ensures shown { AreShown T.tells T.seen T.fault_count T.lack_count piece.now seats.old seats.new }
 {
     for seat in seats.iter_mut() {
         seat.show(piece);

@@ -111,7 +111,7 @@ fn is_alone(words: &[Text], place: usize) -> bool
     true
 }
 
-/// The words behind this many pairs.
+/// The words after this many pairs.
 #[tactic(auto, using(crate::proofs::Counting::enough, crate::proofs::Counting::behind_is))]
 pub fn run_line(words: &[Text], pairs: usize) -> &[Text]
     requires { AsksForTaps words.now pairs }
@@ -120,7 +120,7 @@ pub fn run_line(words: &[Text], pairs: usize) -> &[Text]
     &words[2 * pairs..]
 }
 
-/// The name of the released capture that stands behind this many pairs.
+/// The name of the released capture that stands after this many pairs.
 #[tactic(auto, using(crate::proofs::Counting::enough))]
 pub fn mirrored_name(words: &[Text], pairs: usize) -> &Text
     requires { AsksForTaps words.now pairs }

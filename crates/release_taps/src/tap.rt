@@ -29,6 +29,9 @@ pub trait Tap: Drop {
     /// How often it found no memory. A count at 2^64 - 1 stays there.
     ghost lack_count: { Self → ℕ };
 
+    /// What it is called, as the name of the file that it writes to. It stays the same.
+    ghost label: { Self → List ℕ };
+
     /// Shows it the next bytes: it takes all of them, or none.
     fn show(&mut self, piece: &[u8]) -> Shown
         ensures told { tells self.new → tells self.old }
@@ -39,7 +42,8 @@ pub trait Tap: Drop {
         ensures lacked { result ≡ Shown.NoMemory
             → Rose (lack_count self.old) (lack_count self.new) }
         ensures more_faults { fault_count self.old ≤ fault_count self.new }
-        ensures more_lacks { lack_count self.old ≤ lack_count self.new };
+        ensures more_lacks { lack_count self.old ≤ lack_count self.new }
+        ensures same_label { label self.new ≡ label self.old };
 
     /// How often it failed.
     fn faults(&self) -> u64

@@ -1,11 +1,11 @@
-ghost use Rattle.std.specs.Prelude.{◌≡◌, false, List, ℕ, length, IfOk};
+ghost use Rattle.std.specs.Prelude.{◌≡◌, false, List, ℕ, length, map, IfErr, IfOk};
 ghost use Rattle.release_taps.specs.Mirrored.{IsMirroring, after_create, mirrored_part};
-ghost use Rattle.release_taps.specs.Seats.{AllFresh};
+ghost use Rattle.release_taps.specs.Seats.{AllFresh, labels_of};
 ghost use Rattle.world_io.specs.Stream.{PutCount, put_bytes};
 
 use crate::Tap;
 use crate::seat::{Seat, seat_all, show_each};
-use plain_text::{NoMemory, Text};
+use plain_text::Text;
 use std::alloc::Global;
 use std::marker::{Brand, PhantomData};
 use world_io::{Filled, OpenFault, Put, World};
@@ -16,6 +16,8 @@ pub trait Seating {
     ghost file_name: { List ℕ };
 
     ghost seat_count: { ℕ };
+
+    ghost labels: { List (List ℕ) };
 }
 
 impl Seating for Brand {
@@ -24,6 +26,8 @@ impl Seating for Brand {
     ghost file_name = { [] };
 
     ghost seat_count = { 0 };
+
+    ghost labels = { [] };
 }
 
 /// A world round another one that shows each tap the bytes which the mirrored file took: the first
@@ -43,6 +47,7 @@ pub struct TapWorld<W: World, T: Tap, S: Seating> {
         name mirrored world seats.items },
     ghost same_name: { name ≡ S.file_name },
     ghost same_count: { length seats.items ≡ S.seat_count },
+    ghost same_labels: { labels_of T.label seats.items ≡ S.labels },
 }
 
 /// What is left when the taps are taken off.
@@ -56,15 +61,19 @@ pub struct Untapped<W, T> {
 }
 
 impl<W: World + Drop, T: Tap, S: Seating> TapWorld<W, T, S> {
-    /// Seats the taps, in order. After want of memory all is gone.
-    pub fn new(alloc: Global, world: W, name: Text, taps: Vec<T>) -> Result<Self, NoMemory>
+    /// Seats the taps, in order. After want of memory the taps are gone, and the world is given back.
+    pub fn new(alloc: Global, world: W, name: Text, taps: Vec<T>) -> Result<Self, W>
         requires new_world { (file : ℕ) → (W.ledger world).created file ≡ false }
         requires fresh { AllFresh T.tells T.seen T.fault_count T.lack_count taps.items }
         requires name { name ≡ S.file_name }
         requires count { length taps.items ≡ S.seat_count }
+        requires labels { map T.label taps.items ≡ S.labels }
         ensures world { IfOk result (λ tapped. tapped.world ≡ world) }
+        ensures world_back { IfErr result (λ back. back ≡ world) }
     {
-        let seats = seat_all(alloc, taps)?;
+        let Ok(seats) = seat_all(alloc, taps) else {
+            return Err(world);
+        };
         Ok(TapWorld {
             world,
             name,
@@ -81,6 +90,7 @@ impl<W: World + Drop, T: Tap, S: Seating> TapWorld<W, T, S> {
             T.tells T.seen T.fault_count T.lack_count
             S.file_name result.mirrored result.world result.seats.items }
         ensures count { length result.seats.items ≡ S.seat_count }
+        ensures labels { labels_of T.label result.seats.items ≡ S.labels }
     {
         Untapped {
             world: self.world,

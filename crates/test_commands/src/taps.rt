@@ -45,7 +45,7 @@ fn add_tap(alloc: Global, taps: &mut Vec<MemoryTap>, limit: Option<u64>) -> Resu
     Ok(())
 }
 
-/// The words of the run behind this many pairs, each with a name of its own.
+/// The words of the run after this many pairs, each with a name of its own.
 fn tapped_words(alloc: Global, pairs: usize) -> Result<Vec<Text>, NoMemory> {
     let mut words = Vec::new(alloc);
     for pair in 0..pairs {
@@ -86,8 +86,10 @@ fn run_with_taps<R: AllocGlobal + Threads + Wait + Sync>(
     let words = words.as_slice();
     match split_taps(words) {
         Split::Taps { pairs, .. } if pairs == taps.len() => {
-            let run = tapped(rt, words, world, taps, &FixedClock(0), &OpenGate)?;
-            Ok(Some(run))
+            match tapped(rt, words, world, taps, &FixedClock(0), &OpenGate) {
+                Ok(run) => Ok(Some(run)),
+                Err(_world) => Err(NoMemory),
+            }
         }
         _ => Ok(None),
     }

@@ -1,4 +1,4 @@
-ghost use Rattle.std.specs.Prelude.{◌≡◌, length, OnOk};
+ghost use Rattle.std.specs.Prelude.{◌≡◌, [], length, map, OnOk};
 ghost use Rattle.release_taps.specs.Recorded.{AreUnused};
 
 use plain_text::{NoMemory, Text};
@@ -38,9 +38,12 @@ fn tapped<S: Seating>(
     requires fresh { AreUnused taps.items }
     requires name { name ≡ S.file_name }
     requires count { length taps.items ≡ S.seat_count }
+    requires labels { map (λ _. []) taps.items ≡ S.labels }
 {
     let asked = Text::of(alloc, name.as_str())?;
-    let mut world = TapWorld::<MemoryWorld, MemoryTap, S>::new(alloc, world, name, taps)?;
+    let Ok(mut world) = TapWorld::<MemoryWorld, MemoryTap, S>::new(alloc, world, name, taps) else {
+        return Err(NoMemory);
+    };
     let _ = write_pieces(&mut world, &asked);
     Ok(world.part())
 }

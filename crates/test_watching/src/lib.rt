@@ -1,5 +1,5 @@
-//! Tests of packet taps: a tap in its window, one that is taken out and seated again, and one that fails beside another
-//! that goes on. It has no function that another crate may call.
+//! Tests of packet taps: a tap in its window, one that is taken out and seated again, and one that fails while
+//! another goes on. It has no function that another crate may call.
 #![tactic(auto)]
 
 #[cfg(test)]

@@ -49,11 +49,12 @@ fn copy(alloc: Global, packet: &Packet) -> Result<Packet, NoMemory>
 }
 
 impl PacketTap for Recorder {
-    ghost use Rattle.std.specs.Prelude.{⊤};
+    ghost use Rattle.std.specs.Prelude.{◌≡◌, ◌++◌, ◌∷◌, []};
+    ghost use Rattle.plain_text.specs.declared.packet.Packet.{Packet};
 
-    ghost tells = { λ _. ⊤ };
+    ghost saw = { λ r packets. r.packets ≡ packets };
 
-    ghost seen = { λ r. r.packets };
+    ghost missed = { λ r packets. (last : Packet) × (packets ≡ r.packets ++ last ∷ []) };
 
     ghost fault_count = { λ r. r.faults };
 

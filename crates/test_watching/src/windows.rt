@@ -64,7 +64,7 @@ fn sees_the_second(alloc: Global) -> Result<bool, NoMemory> {
     Ok(saw && !again && taken.skip == 0 && taken.quota == 0)
 }
 
-/// Whether a tap that fails at its second packet saw the first alone, and one behind it the first two.
+/// Whether a tap that fails at its second packet saw the first alone, and one after it the first two.
 fn loses_one(alloc: Global) -> Result<bool, NoMemory> {
     let mut deck = Deck::new(alloc)?;
     let Ok(0) = deck.seat(Recorder::new(alloc, 1), 0, 3) else {
@@ -109,7 +109,7 @@ fn goes_on(alloc: Global) -> Result<bool, NoMemory> {
     are(alloc, there.tap.packets.as_slice(), b"ca")
 }
 
-/// Whether a fault of reading behind the last packet is told, and a tap saw the packets before.
+/// Whether a fault of reading after the last packet is told, and a tap saw the packets before.
 fn tells_a_read_fault(alloc: Global) -> Result<bool, NoMemory> {
     let mut deck = Deck::new(alloc)?;
     let Ok(0) = deck.seat(Recorder::new(alloc, 9), 0, 9) else {
@@ -126,15 +126,30 @@ fn tells_a_read_fault(alloc: Global) -> Result<bool, NoMemory> {
     Ok(all && watched == Watched::ReadFault)
 }
 
-/// What printing the lines comes to, where the second one may fail.
-fn printed(alloc: Global, second_fails: bool) -> Result<Printed, NoMemory> {
+/// A world on whose report nothing stands, of whose calls of writing this one fails.
+fn report(alloc: Global, fails: Option<u64>) -> Result<MemoryWorld, NoMemory>
+    ensures { IfOk result (λ world. world.report ≡ []) }
+{
+    let mut out = MemoryWorld::new(alloc)?;
+    if let Some(nth) = fails {
+        out.fail_write(nth)?;
+    }
+    Ok(out)
+}
+
+/// Whether printing the lines comes to this, and these bytes stand on the report, of whose calls of writing this one
+/// fails.
+fn prints(
+    alloc: Global,
+    fails: Option<u64>,
+    answer: Printed,
+    bytes: &[u8],
+) -> Result<bool, NoMemory> {
     let words = words(alloc)?;
     let mut world = world(alloc)?;
-    let mut out = MemoryWorld::new(alloc)?;
-    if second_fails {
-        out.fail_write(2)?;
-    }
-    Ok(print_watched(alloc, words.as_slice(), &mut world, out))
+    let out = report(alloc, fails)?;
+    let printed = print_watched(alloc, words.as_slice(), &mut world, out);
+    Ok(printed.printed == answer && printed.out.report() == bytes)
 }
 
 #[test]
@@ -143,9 +158,20 @@ fn a_fault_of_reading_is_told(rt: HostRuntime) {
 }
 
 #[test]
+fn each_line_is_printed(rt: HostRuntime) {
+    let all = prints(
+        rt.alloc(),
+        None,
+        Printed::Watched(Watched::Done(3)),
+        b"1 5 1\n2 6 1\n3 7 1\n",
+    );
+    assert!(rt; matches!(all, Ok(true)));
+}
+
+#[test]
 fn a_line_that_is_not_printed_is_told(rt: HostRuntime) {
-    assert!(rt; printed(rt.alloc(), false) == Ok(Printed::Watched(Watched::Done(3))));
-    assert!(rt; printed(rt.alloc(), true) == Ok(Printed::WriteFault));
+    let first = prints(rt.alloc(), Some(2), Printed::WriteFault, b"1 5 1\n");
+    assert!(rt; matches!(first, Ok(true)));
 }
 
 #[test]

@@ -8,14 +8,12 @@
 //! takes what follows, and that `write` appends what it says it took.
 #![tactic(auto)]
 
-mod file_tap;
 mod notice;
 mod pieces;
 mod real_clock;
 mod real_file;
 mod real_world;
 
-pub use file_tap::FileTap;
 pub use notice::{Notice, ProgressLine, Silence};
 pub use real_clock::RealClock;
 pub use real_world::RealWorld;

@@ -1,1 +1,2 @@
 pub mod Existing
+pub mod Sending

@@ -5,14 +5,17 @@
 //! of files which held these, then its bytes are those that the calls make of them. The record takes
 //! no memory, and when the program runs it costs an empty call for each call.
 //!
-//! To be trusted, beside the world below: that the record is that of the calls made, by two proofs
+//! To be trusted, apart from the world below: that the record is that of the calls made, by two proofs
 //! by hand in `record`, which no other code can change.
 #![tactic(auto)]
 
 mod laws;
 mod record;
+mod tapping;
 mod told;
+mod told_tap;
 
 pub use laws::some_beginning;
 pub use record::Call;
 pub use told::Told;
+pub use told_tap::{Refused, ToldTap};

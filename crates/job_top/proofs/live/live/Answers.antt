@@ -3,7 +3,10 @@ use Rattle.live_writes.specs.Outputs.{AreApart}
 use Rattle.input_files.proofs.OnlyReading.{OpensFirst-all}
 use Rattle.job_commands.specs.declared.status.Status.{Status}
 use Rattle.job_commands.specs.Status.{IsRefusal, stage_of}
+use Rattle.job_commands.specs.declared.status.Status.TheVariants as status
+use Rattle.job_commands.specs.Live.{JudgesLiveFiles}
 use Rattle.job_commands.specs.Words.{live_names_of}
+use Rattle.job_commands.proofs.LiveFiles.{live_says}
 use Rattle.job_commands.proofs.Outcomes.{kept, run_words, run_reads, run_refuses, run_fault}
 use Rattle.job_commands.proofs.Stages.{quiet_words, quiet_writing, quiet_done}
 use Rattle.job_commands.proofs.Failing.{failed_since}
@@ -106,7 +109,15 @@ pub returns-in-Err-clause-headline : goal.returns-in-Err-clause-headline
 returns-in-Err-clause-headline g c p q e = absurd (quiet_done c.in-Err.status e c.in-Err.ensures.quiet)
 
 pub returns-in-Err-clause-limit : goal.returns-in-Err-clause-limit
-returns-in-Err-clause-limit g c p q limit e = inl (kept _ _ (c.in-Err.ensures.keeps p q))
+returns-in-Err-clause-limit g c p q limit e =
+    let names = live_names_of c.args.names in
+    let old = g.W.World.shows p c.args.world.now in
+    let judged = subst (λ (s : Status). JudgesLiveFiles (g.W.World.healthy c.args.world.now) names (λ inputs other. ⊥) s
+    old) e (c.in-Err.ensures.judged p q) in
+    inl (
+      kept _ _ (c.in-Err.ensures.keeps p q),
+      live_says (g.W.World.healthy c.args.world.now) names old (status.TooLarge limit) judged,
+    )
 
 pub returns-in-Err-clause-in_order : goal.returns-in-Err-clause-in_order
 returns-in-Err-clause-in_order g c p q = inl (kept _ _ (c.in-Err.ensures.keeps p q))

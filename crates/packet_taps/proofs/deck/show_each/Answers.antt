@@ -10,9 +10,9 @@ loop-place-preserved g c =
     let below = c.loop-place-test.true in
     let same = c.loop-place.auto.places in
     let within : c.loop-place.place-index < length c.loop-place.places = omega (arith, below, same) in
-    let shown = subst (λ was. IsShown tap.tells tap.seen tap.fault_count tap.lack_count (c.args.packet.now ∷ []) was
+    let shown = subst (λ was. IsShown tap.saw tap.missed tap.fault_count tap.lack_count (c.args.packet.now ∷ []) was
     c.shown.result) c.replace-was.ensures.value c.shown.ensures in
-    shown-next tap.tells tap.seen tap.fault_count tap.lack_count (c.args.packet.now ∷ []) c.loop-place.place-index
+    shown-next tap.saw tap.missed tap.fault_count tap.lack_count (c.args.packet.now ∷ []) c.loop-place.place-index
     c.args.places.now c.loop-place.places
     (get_or c.loop-place.places c.loop-place.place-index c.place-item.result) c.shown.result c.loop-place.invariant
     (slice_get-get_or c.loop-place.places c.loop-place.place-index c.place-item.result within) shown

@@ -74,7 +74,7 @@ records-preserved g c =
           c.next_packet.new.source c.records.reader c.next_packet.new.self inv.some c.next_packet.ensures.taken;
       octets = All-push IsOfBytes inv.packets c.in-Packet.packet inv.octets c.in-Packet.ensures.given.1;
       goes_on = GoesOn-trans g.S.Source.faults g.S.Source.healthy _ _ _ inv.goes_on c.in-Packet.ensures.goes_on;
-      shown = are_shown-append g.T.PacketTap.tells g.T.PacketTap.seen g.T.PacketTap.fault_count g.T.PacketTap.lack_count
+      shown = are_shown-append g.T.PacketTap.saw g.T.PacketTap.missed g.T.PacketTap.fault_count g.T.PacketTap.lack_count
           inv.packets (c.in-Packet.packet ∷ []) c.args.deck.now c.records.deck c.show.new.self inv.shown c.show.ensures;
       counted = omega (arith, inv.counted, length_push inv.packets c.in-Packet.packet);
     }

@@ -8,7 +8,7 @@ abbrev pub invariant-records : goal.invariant-records
 invariant-records g l =
     let source = g.S.Source in
     let tap = g.T.PacketTap in
-    HasWatched source.reads source.honest source.remains source.faults source.healthy tap.tells tap.seen
+    HasWatched source.reads source.honest source.remains source.faults source.healthy tap.saw tap.missed
     tap.fault_count tap.lack_count l.fn.source l.source l.reader l.fn.deck l.deck l.count
 
 abbrev pub decreases-records : goal.decreases-records

@@ -1,0 +1,145 @@
+-- What a run of the words promises, from what each kind of run does.
+use Rattle.std.proofs.Common.{◌≡◌, ◌<◌, ◌⊎◌, ◌∙◌, ℕ, List, refl, sym, subst, arith, inl, inr, Bool, true, false, Option}
+use Rattle.std.proofs.Common.{Some, None}
+use Rattle.std.specs.Prelude.{IfSome}
+use Rattle.world_io.specs.Stream.{Rose}
+use Rattle.world_io.specs.World.{Start, Shown, Ledger}
+use Rattle.job_commands.specs.declared.status.Status.{Status}
+use Rattle.job_commands.specs.declared.status.Status.TheVariants.{BadWords, ReadFault, WriteFault, NoMemory}
+use Rattle.job_top.specs.Answers.{Answers}
+use Rattle.release_taps.specs.Split.{AsksForTaps, BeginsWithTap, behind_pairs}
+use Rattle.release_taps.proofs.Counting.{one_count}
+use Rattle.command_line.specs.Performing.{PerformsIn, WatchesIn}
+use Rattle.command_line.specs.Running.{AreBad, AsksToWatch, HasRefused, IsNotBegun, Runs}
+use Rattle.command_words.specs.Watching.{begins_watch}
+
+-- a count that rose is not 0
+pub rose_some : (old new : ℕ) → Rose old new → 0 < new
+rose_some old new rose = omega (arith, rose)
+
+-- words that ask for taps begin with `tap`
+begins : (words : List (List ℕ)) (pairs : ℕ) → AsksForTaps words pairs → BeginsWithTap words
+begins words pairs asks = asks.taps 0 (let some = asks.some in omega (arith, some))
+
+-- words that do not ask for a capture to be watched, and for no tap
+pub plain_watch : (words : List (List ℕ)) → ¬ BeginsWithTap words → ¬ AsksToWatch words → begins_watch words ≡ false
+plain_watch words no_tap no_watch = go (begins_watch words) (λ watch. no_watch (record { no_tap = no_tap; watch = watch }))
+  where
+    go : (b : Bool) → ¬ (b ≡ true) → b ≡ false
+    go true not = absurd (not refl)
+    go false not = refl
+
+pub plain_taps : (words : List (List ℕ)) → ¬ BeginsWithTap words → (pairs : ℕ) → AsksForTaps words pairs → ⊥
+plain_taps words no_tap pairs asks = no_tap (begins words pairs asks)
+
+pub tapped_watch : (words : List (List ℕ)) (pairs : ℕ) → AsksForTaps words pairs → AsksToWatch words → ⊥
+tapped_watch words pairs asks watch = watch.no_tap (begins words pairs asks)
+
+-- what is so of a test that is true, and of one that is false, is so
+either : (Holds : Type 0) (b : Bool) → (b ≡ true → Holds) → (b ≡ false → Holds) → Holds
+either Holds true when_true when_false = when_true refl
+either Holds false when_true when_false = when_false refl
+
+-- a run of which the taps could not be created
+pub not_created : {W X : Type 0} (faults : X → ℕ) (refused : Option X) (status : Status) (world : W)
+    → IfSome refused (λ _. status ≡ WriteFault) → (refused ≡ None → status ≡ NoMemory)
+    → IfSome refused (λ w. 0 < faults w) → IsNotBegun faults refused status world world
+not_created faults None status world fault memory some = record { cause = inl (memory refl); same = refl }
+not_created faults (Some w) status world fault memory some = record { cause = inr (fault, some); same = refl }
+
+module _ {W X : Type 0} (honest : Start → W → Type 0) (shows : Start → W → Shown) (ledger : W → Ledger)
+    (healthy : W → Type 0) (may : ℕ → Type 0) (faults : X → ℕ) (refused : Option X) (words : List (List ℕ)) where
+  -- Words that begin with `tap` and ask for none: nothing was asked.
+  pub runs-bad : (status : Status) (old new : W) (printed : Ledger) → new ≡ old → BeginsWithTap words
+      → ((pairs : ℕ) → ¬ AsksForTaps words pairs)
+      → Runs honest shows ledger healthy may faults refused words status old new printed
+  runs-bad status old new printed same tap none = record {
+    bad_words = λ bad. inl (tap, none);
+    nothing_asked = λ bad. same;
+    performs = λ asks. absurd (asks.no_tap tap);
+    watches = λ asks. absurd (asks.no_tap tap);
+    taps = λ pairs asks. absurd (none pairs asks);
+    before = λ p h. subst (λ (w : W). honest p w) same h;
+  }
+
+  module _ (status : Status) (old new : W) (printed : Ledger) where
+    module _ (performs : begins_watch words ≡ false
+        → PerformsIn honest shows ledger healthy may words status old new)
+        (watches : begins_watch words ≡ true → WatchesIn honest shows ledger healthy words status old new printed) where
+      pub runs-plain : ¬ BeginsWithTap words
+          → Runs honest shows ledger healthy may faults refused words status old new printed
+      runs-plain no_tap = record {
+        bad_words = λ bad. either (AreBad words) (begins_watch words)
+            (λ watch. inr (inr (inl (record { no_tap = no_tap; watch = watch }, (watches watch).bad_words bad))))
+            (λ plain.
+            let none = (performs plain).bad_words bad in
+            inr (inr (inr (record { no_tap = no_tap; no_watch = plain }, none.0, none.1))));
+        nothing_asked = λ bad. either (new ≡ old) (begins_watch words) (λ watch. (watches watch).nothing_asked bad)
+            (λ plain. (performs plain).nothing_asked bad);
+        performs = λ asks. performs asks.no_watch;
+        watches = λ asks. watches asks.watch;
+        taps = λ pairs asks. absurd (no_tap (begins words pairs asks));
+        before = λ p h. either (honest p old) (begins_watch words) (λ watch. (watches watch).before p h)
+            (λ plain. (performs plain).before p h);
+      }
+
+      pub plain-read_fault : status ≡ ReadFault → 0 < (ledger new).read_faults
+      plain-read_fault fault = either (0 < (ledger new).read_faults) (begins_watch words)
+          (λ watch. rose_some _ _ ((watches watch).read_fault fault))
+          (λ plain. rose_some _ _ ((performs plain).read_fault fault))
+
+      pub plain-write_fault : status ≡ WriteFault
+          → (0 < (ledger new).write_faults) ⊎ ((0 < printed.write_faults) ⊎ HasRefused faults refused)
+      plain-write_fault fault = either
+          ((0 < (ledger new).write_faults) ⊎ ((0 < printed.write_faults) ⊎ HasRefused faults refused))
+          (begins_watch words) (λ watch. inr (inl ((watches watch).write_fault fault)))
+          (λ plain. inl (rose_some _ _ ((performs plain).write_fault fault)))
+
+    module _ (pairs : ℕ) (asks : AsksForTaps words pairs) where
+      abbrev pub Tapped : ℕ → Type 0
+      Tapped n = IsNotBegun faults refused status old new
+          ⊎ Answers honest shows ledger healthy may (behind_pairs n words) status old new
+
+      pub runs-tapped : Tapped pairs → Runs honest shows ledger healthy may faults refused words status old new printed
+      runs-tapped answers = record {
+        bad_words = bad answers;
+        nothing_asked = nothing answers;
+        performs = λ plain. absurd (plain.no_tap (begins words pairs asks));
+        watches = λ watch. absurd (watch.no_tap (begins words pairs asks));
+        taps = λ other others. subst Tapped (one_count words pairs other asks others) answers;
+        before = earlier answers;
+      }
+        where
+          not_bad : (status ≡ NoMemory) ⊎ ((status ≡ WriteFault) × HasRefused faults refused) → status ≡ BadWords → ⊥
+          not_bad (inl memory) is = let never : NoMemory ≡ BadWords = sym memory ∙ is in cc
+          not_bad (inr fault) is = let never : WriteFault ≡ BadWords = sym fault.0 ∙ is in cc
+
+          bad : Tapped pairs → status ≡ BadWords → AreBad words
+          bad (inl not) is = absurd (not_bad not.cause is)
+          bad (inr all) is = inr (inl (pairs, asks, all.bad_words.0 is))
+
+          nothing : Tapped pairs → status ≡ BadWords → new ≡ old
+          nothing (inl not) is = not.same
+          nothing (inr all) is = all.nothing_asked is
+
+          earlier : Tapped pairs → (p : Start) → honest p new → honest p old
+          earlier (inl not) p h = subst (λ (w : W). honest p w) not.same h
+          earlier (inr all) p h = all.before p h
+
+      pub tapped-read_fault : Tapped pairs → status ≡ ReadFault → 0 < (ledger new).read_faults
+      tapped-read_fault (inl not) fault = absurd (go not.cause)
+        where
+          go : (status ≡ NoMemory) ⊎ ((status ≡ WriteFault) × HasRefused faults refused) → ⊥
+          go (inl memory) = let never : NoMemory ≡ ReadFault = sym memory ∙ fault in cc
+          go (inr write) = let never : WriteFault ≡ ReadFault = sym write.0 ∙ fault in cc
+      tapped-read_fault (inr all) fault = rose_some _ _ (all.read_fault fault)
+
+      pub tapped-write_fault : Tapped pairs → status ≡ WriteFault
+          → (0 < (ledger new).write_faults) ⊎ ((0 < printed.write_faults) ⊎ HasRefused faults refused)
+      tapped-write_fault (inl not) fault = go not.cause
+        where
+          go : (status ≡ NoMemory) ⊎ ((status ≡ WriteFault) × HasRefused faults refused)
+              → (0 < (ledger new).write_faults) ⊎ ((0 < printed.write_faults) ⊎ HasRefused faults refused)
+          go (inl memory) = absurd (let never : NoMemory ≡ WriteFault = sym memory ∙ fault in cc)
+          go (inr write) = inr (inr write.1)
+      tapped-write_fault (inr all) fault = inl (rose_some _ _ (all.write_fault fault))
