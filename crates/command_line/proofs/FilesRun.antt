@@ -16,6 +16,8 @@ use Rattle.job_top.specs.Answers.{Answers, AnswersBytes}
 use Rattle.release_taps.specs.Split.{AsksForTaps, behind_pairs}
 use Rattle.command_line.specs.Running.{AskedNothing, AsksToWatch, IsNotBegun, PrintsFiles, Runs, RunsFiles}
 use Rattle.command_words.specs.Watching.{PrintsLines, Watches}
+use Rattle.command_words.specs.declared.clashes.Clash.{Clash}
+use Rattle.command_words.specs.declared.named_file.NamedFile.{NamedFile}
 use Rattle.command_line.specs.Performing.{Performs}
 
 pub not_begun : {W X : Type 0} (faults : X → ℕ) (refused : Option X) (status : Status) (old new : WithCalls W)
@@ -110,11 +112,12 @@ module _ {A E : Type 0} (arguments : Result A E) (of : A → List (List ℕ)) (w
       go (Ok all) same = inl (subst Asked same asked)
       go (Err error) same = tt
 
-pub no_memory : {A E : Type 0} (arguments : Result A E) (of : A → List (List ℕ)) (same : Option (ℕ × ℕ))
-    (status : Status) (calls : List Event) (Ran : A → Type 0) → calls ≡ [] → IfOk arguments (λ all. status ≡ NoMemory)
-    → IfOk arguments (λ all. AskedNothing same (of all) status calls ⊎ Ran all)
-no_memory (Ok all) of same status calls Ran none is = inl (record { cause = inl is; none = none })
-no_memory (Err error) of same status calls Ran none is = tt
+pub no_memory : {A E : Type 0} (arguments : Result A E) (of : A → List (List ℕ))
+    (tells : List ℕ → NamedFile → Type 0) (same : Option Clash) (status : Status) (calls : List Event)
+    (Ran : A → Type 0) → calls ≡ [] → IfOk arguments (λ all. status ≡ NoMemory)
+    → IfOk arguments (λ all. AskedNothing tells same (of all) status calls ⊎ Ran all)
+no_memory (Ok all) of tells same status calls Ran none is = inl (record { cause = inl is; none = none })
+no_memory (Err error) of tells same status calls Ran none is = tt
 
 pub not_read : {A E : Type 0} (arguments : Result A E) (Said : E → Type 0) (Also : Type 0) → Also
     → IfErr arguments Said → IfErr arguments (λ error. Said error × Also)

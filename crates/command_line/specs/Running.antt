@@ -17,8 +17,11 @@ use Rattle.packet_taps.specs.Printing.{PrintsWindow}
 use Rattle.packet_taps.specs.Watching.{JudgesWatched}
 use Rattle.packet_taps.specs.Words.{watch_names}
 use Rattle.command_line.specs.Performing.{Performs, PerformsIn, WatchesIn}
+use Rattle.command_words.specs.Clashes.{Clashes}
 use Rattle.command_words.specs.Printing.{asked_text}
 use Rattle.command_words.specs.Watching.{Watches, begins_watch, watch_status}
+use Rattle.command_words.specs.declared.clashes.Clash.{Clash}
+use Rattle.command_words.specs.declared.named_file.NamedFile.{NamedFile}
 
 -- the words ask for no tap, and not for a capture to be watched
 pub record AsksPlainly (words : List (List ℕ)) : Type 0 where
@@ -93,15 +96,16 @@ pub record TapsMirror {W T : Type 0} (honest : Start → W → Type 0) (shows : 
 
 -- Of the installed program
 
--- these are two places of words
-abbrev pub AreTwoPlaces : Option (ℕ × ℕ) → List (List ℕ) → Type 0
-AreTwoPlaces None words = ⊥
-AreTwoPlaces (Some places) words =
-    (places.0 < length words) × (places.1 < length words) × ¬ (places.0 ≡ places.1)
+-- two names were told to be of one file, of which one is to be written
+abbrev pub HasClash : (List ℕ → NamedFile → Type 0) → List (List ℕ) → Option Clash → Type 0
+HasClash tells words None = ⊥
+HasClash tells words (Some clash) = Clashes tells words clash
 
--- Nothing was asked of the files: memory ran out, or these two places have names that were found to be of one file.
-pub record AskedNothing (same : Option (ℕ × ℕ)) (words : List (List ℕ)) (status : Status) (calls : List Event) : Type 0 where
-  pub cause : (status ≡ NoMemory) ⊎ ((status ≡ BadWords) × AreTwoPlaces same words)
+-- Nothing was asked of the files: memory ran out, or two names were told to be of one file, of which one is to be
+-- written, by what may be told of names.
+pub record AskedNothing (tells : List ℕ → NamedFile → Type 0) (same : Option Clash) (words : List (List ℕ))
+    (status : Status) (calls : List Event) : Type 0 where
+  pub cause : (status ≡ NoMemory) ⊎ ((status ≡ BadWords) × HasClash tells words same)
   pub none : calls ≡ []
 
 -- What a run of the words promises where its files had these calls: by each beginning of which their answers are honest.

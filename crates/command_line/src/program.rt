@@ -3,6 +3,7 @@ ghost use Rattle.std.specs.IoError.{error_kind};
 ghost use Rattle.std.specs.Process.{exit_status};
 ghost use Rattle.command_line.specs.Running.{AskedNothing, EndsWith, HasRefused, IsNotBegun};
 ghost use Rattle.command_line.specs.Running.{PrintsFiles, RunsFiles, TapsMirror};
+ghost use Rattle.command_words.specs.Clashes.{NoneClash};
 ghost use Rattle.command_words.specs.Words.{Refuses, words_of};
 ghost use Rattle.release_taps.specs.Split.{AsksForTaps};
 ghost use Rattle.world_real.specs.Real.{real_ledger};
@@ -11,7 +12,7 @@ ghost use Rattle.world_told.specs.Honest.{IsHonest};
 ghost use Rattle.world_told.specs.Sent.{name_of, sent_to};
 
 use crate::{RealTap, SilentWorld, exit_of, run_words};
-use command_words::{one_file, read_words, tell_more};
+use command_words::{Clash, Names, one_file, read_words, tell_more};
 use job_commands::{Status, StatusText};
 use plain_text::Text;
 use release_taps::Seat;
@@ -44,9 +45,8 @@ pub struct Ended<W, V, T, X> {
     pub taps: Vec<Seat<T>>,
     /// The files in which the one of a tap could not be created, which have counted a fault.
     pub refused: Option<X>,
-    /// Two places of words that name one file, of which the second was to be written: what
-    /// `one_file` found.
-    pub same: Option<(usize, usize)>,
+    /// Two names that were told to be of one file, of which one was to be written.
+    pub same: Option<Clash>,
 }
 
 /// The program: does what its arguments ask for over the files of the system, by its clock and on
@@ -73,11 +73,11 @@ pub fn run_program<
         return end(rt, Status::NoMemory);
     };
     let clock = RealClock::new(own);
-    run_arguments(rt, env::args(rt), &clock, errors).code
+    run_arguments(rt, env::args(rt), &clock, errors, rt).code
 }
 
-/// Does what the arguments ask for over the files of the system, and gives back their record. Where the file of an
-/// output is seen to be that of another word (`one_file`), it does nothing.
+/// Does what the arguments ask for over the files of the system, and gives back their record. Where the name of an
+/// output is told to be of one file with another name (`one_file`), it does nothing. `names` tells that.
 ///
 /// The world of the files has a record of its calls. So what is promised by a beginning holds of the program: whatever
 /// bytes stood under the names when it began, if the system answered its reads as files with those bytes do.
@@ -89,11 +89,13 @@ pub fn run_arguments<
     R: AllocGlobal + Files + Print + Eprint + Threads + Wait + Sync,
     C: Clock + Sync,
     E: Eprint + IsTerminal,
+    N: Names,
 >(
     rt: &'a R,
     arguments: io::Result<Args>,
     clock: &'a C,
     errors: &'a E,
+    names: &N,
 ) -> Ended<
     Told<RealWorld<&'a R, ProgressLine<'a, C, E>>>,
     Told<SilentWorld<'a, R>>,
@@ -102,14 +104,14 @@ pub fn run_arguments<
 >
     ensures number { EndsWith result.status (exit_status result.code) }
     ensures runs { IfOk arguments (λ all.
-        AskedNothing result.same (words_of all) result.status result.world.calls
+        AskedNothing (N.may names.now) result.same (words_of all) result.status result.world.calls
         ⊎ RunsFiles (C.may clock.now) (λ w. (real_ledger w).write_faults) result.refused
         (words_of all) result.status result.world.calls) }
     ensures prints { IfOk arguments (λ all.
-        AskedNothing result.same (words_of all) result.status result.world.calls
+        AskedNothing (N.may names.now) result.same (words_of all) result.status result.world.calls
         ⊎ PrintsFiles (words_of all) result.status result.world.calls result.out.calls) }
     ensures mirrors { IfOk arguments (λ all.
-        AskedNothing result.same (words_of all) result.status result.world.calls
+        AskedNothing (N.may names.now) result.same (words_of all) result.status result.world.calls
         ⊎ ((pairs : ℕ) → AsksForTaps (words_of all) pairs
         → IsNotBegun (λ w. (real_ledger w).write_faults) result.refused result.status
         [] result.world.calls ⊎ TapsMirror (λ p t. IsHonest p t.calls)
@@ -117,6 +119,9 @@ pub fn run_arguments<
         (λ t. (t.faults ≡ 0) × (t.lacks ≡ 0)) (λ t. sent_to t.file t.world.calls)
         (λ t. t.faults) (λ t. t.lacks) (λ t. name_of t.file t.world.calls)
         (words_of all) pairs result.world result.taps.items)) }
+    ensures apart { IfOk arguments (λ all.
+        AskedNothing (N.may names.now) result.same (words_of all) result.status result.world.calls
+        ⊎ NoneClash (N.may names.now) (words_of all)) }
     ensures no_words { IfErr arguments (λ error.
         Refuses (error_kind error) result.status × (result.world.calls ≡ [])) }
     ensures read_fault { result.status ≡ Status.ReadFault
@@ -144,7 +149,7 @@ pub fn run_arguments<
         }
     };
     let texts = words.as_slice();
-    if let Some(places) = one_file(rt, texts) {
+    if let Some(clash) = one_file(names, texts) {
         end_line(errors);
         return Ended {
             code: end_more(rt, texts, Status::BadWords),
@@ -153,7 +158,7 @@ pub fn run_arguments<
             out,
             taps: Vec::new(rt.alloc()),
             refused: None,
-            same: Some(places),
+            same: Some(clash),
         };
     }
     let run = run_words(rt, texts, world, out, clock, &OpenGate);

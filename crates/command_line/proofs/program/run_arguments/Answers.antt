@@ -8,6 +8,7 @@ use Rattle.world_told.specs.Honest.{IsHonest}
 use Rattle.world_told.specs.Sent.{name_of, sent_to}
 use Rattle.job_commands.specs.declared.status.Status.TheVariants.{BadWords}
 use Rattle.command_line.specs.Running.{AskedNothing, IsNotBegun, PrintsFiles, RunsFiles, TapsMirror}
+use Rattle.command_words.specs.Clashes.{NoneClash}
 use Rattle.command_words.specs.Words.{Refuses, words_of}
 use Rattle.command_line.proofs.FilesRun.{asked_only, no_memory, no_read_fault, no_write_fault, not_begun, not_read}
 use Rattle.command_line.proofs.FilesRun.{prints_files, read, runs_files, with_words}
@@ -48,22 +49,33 @@ returns-clause-mirrors g c =
     (λ pairs asks. not_begun (λ w. (real_ledger w).write_faults) run.result.refused run.result.status c.of-world.result
     run.result.world _ (ap (λ t. t.calls) c.of-world.ensures) (run.ensures.mirrors pairs asks))
 
+pub returns-clause-apart : goal.returns-clause-apart
+returns-clause-apart g c =
+    with_words c.args.arguments words_of c.as_slice-texts.result.now
+    (subst (λ w. IfOk c.args.arguments (λ all. w ≡ words_of all)) (sym c.as_slice-texts.ensures.value) c.in-Ok.ensures.words)
+    _ (λ words. NoneClash (g.N.Names.may c.args.names.now) words) (c.one_file.ensures.none c.in-None.is)
+
 pub returns-clause-no_words : goal.returns-clause-no_words
 returns-clause-no_words g c = read c.args.arguments _ c.in-Ok.ensures.refused
 
 pub returns-in-Err-clause-runs : goal.returns-in-Err-clause-runs
 returns-in-Err-clause-runs g c =
-    no_memory c.args.arguments words_of _ c.in-Err.status c.of-world.result.calls _
+    no_memory c.args.arguments words_of _ _ c.in-Err.status c.of-world.result.calls _
     (ap (λ t. t.calls) c.of-world.ensures) c.in-Err.ensures.copied
 
 pub returns-in-Err-clause-prints : goal.returns-in-Err-clause-prints
 returns-in-Err-clause-prints g c =
-    no_memory c.args.arguments words_of _ c.in-Err.status c.of-world.result.calls _
+    no_memory c.args.arguments words_of _ _ c.in-Err.status c.of-world.result.calls _
+    (ap (λ t. t.calls) c.of-world.ensures) c.in-Err.ensures.copied
+
+pub returns-in-Err-clause-apart : goal.returns-in-Err-clause-apart
+returns-in-Err-clause-apart g c =
+    no_memory c.args.arguments words_of _ _ c.in-Err.status c.of-world.result.calls _
     (ap (λ t. t.calls) c.of-world.ensures) c.in-Err.ensures.copied
 
 pub returns-in-Err-clause-mirrors : goal.returns-in-Err-clause-mirrors
 returns-in-Err-clause-mirrors g c =
-    no_memory c.args.arguments words_of _ c.in-Err.status c.of-world.result.calls _
+    no_memory c.args.arguments words_of _ _ c.in-Err.status c.of-world.result.calls _
     (ap (λ t. t.calls) c.of-world.ensures) c.in-Err.ensures.copied
 
 pub returns-in-Err-clause-no_words : goal.returns-in-Err-clause-no_words
@@ -87,9 +99,9 @@ pub returns-in-Some-clause-runs : goal.returns-in-Some-clause-runs
 returns-in-Some-clause-runs g c =
     asked_only c.args.arguments words_of c.as_slice-texts.result.now
     (subst (λ w. IfOk c.args.arguments (λ all. w ≡ words_of all)) (sym c.as_slice-texts.ensures.value) c.in-Ok.ensures.words)
-    (λ words. AskedNothing (Some c.in-Some.places) words BadWords c.of-world.result.calls) _
+    (λ words. AskedNothing (g.N.Names.may c.args.names.now) (Some c.in-Some.clash) words BadWords c.of-world.result.calls) _
     (record {
-      cause = inr (refl, (c.in-Some.ensures.within.0, c.in-Some.ensures.within.1, c.in-Some.ensures.differ));
+      cause = inr (refl, c.in-Some.ensures.found);
       none = ap (λ t. t.calls) c.of-world.ensures;
     })
 
@@ -97,9 +109,19 @@ pub returns-in-Some-clause-prints : goal.returns-in-Some-clause-prints
 returns-in-Some-clause-prints g c =
     asked_only c.args.arguments words_of c.as_slice-texts.result.now
     (subst (λ w. IfOk c.args.arguments (λ all. w ≡ words_of all)) (sym c.as_slice-texts.ensures.value) c.in-Ok.ensures.words)
-    (λ words. AskedNothing (Some c.in-Some.places) words BadWords c.of-world.result.calls) _
+    (λ words. AskedNothing (g.N.Names.may c.args.names.now) (Some c.in-Some.clash) words BadWords c.of-world.result.calls) _
     (record {
-      cause = inr (refl, (c.in-Some.ensures.within.0, c.in-Some.ensures.within.1, c.in-Some.ensures.differ));
+      cause = inr (refl, c.in-Some.ensures.found);
+      none = ap (λ t. t.calls) c.of-world.ensures;
+    })
+
+pub returns-in-Some-clause-apart : goal.returns-in-Some-clause-apart
+returns-in-Some-clause-apart g c =
+    asked_only c.args.arguments words_of c.as_slice-texts.result.now
+    (subst (λ w. IfOk c.args.arguments (λ all. w ≡ words_of all)) (sym c.as_slice-texts.ensures.value) c.in-Ok.ensures.words)
+    (λ words. AskedNothing (g.N.Names.may c.args.names.now) (Some c.in-Some.clash) words BadWords c.of-world.result.calls) _
+    (record {
+      cause = inr (refl, c.in-Some.ensures.found);
       none = ap (λ t. t.calls) c.of-world.ensures;
     })
 
@@ -107,9 +129,9 @@ pub returns-in-Some-clause-mirrors : goal.returns-in-Some-clause-mirrors
 returns-in-Some-clause-mirrors g c =
     asked_only c.args.arguments words_of c.as_slice-texts.result.now
     (subst (λ w. IfOk c.args.arguments (λ all. w ≡ words_of all)) (sym c.as_slice-texts.ensures.value) c.in-Ok.ensures.words)
-    (λ words. AskedNothing (Some c.in-Some.places) words BadWords c.of-world.result.calls) _
+    (λ words. AskedNothing (g.N.Names.may c.args.names.now) (Some c.in-Some.clash) words BadWords c.of-world.result.calls) _
     (record {
-      cause = inr (refl, (c.in-Some.ensures.within.0, c.in-Some.ensures.within.1, c.in-Some.ensures.differ));
+      cause = inr (refl, c.in-Some.ensures.found);
       none = ap (λ t. t.calls) c.of-world.ensures;
     })
 
