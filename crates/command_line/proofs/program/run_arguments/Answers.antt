@@ -53,7 +53,7 @@ pub returns-clause-apart : goal.returns-clause-apart
 returns-clause-apart g c =
     with_words c.args.arguments words_of c.as_slice-texts.result.now
     (subst (λ w. IfOk c.args.arguments (λ all. w ≡ words_of all)) (sym c.as_slice-texts.ensures.value) c.in-Ok.ensures.words)
-    _ (λ words. NoneClash (g.N.Names.may c.args.names.now) words) (c.one_file.ensures.none c.in-None.is)
+    _ (λ words. NoneClash (g.N.Names.may c.args.names.now) words) (c.one_file.ensures.none c.in_default.is)
 
 pub returns-clause-no_words : goal.returns-clause-no_words
 returns-clause-no_words g c = read c.args.arguments _ c.in-Ok.ensures.refused
