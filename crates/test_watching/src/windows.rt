@@ -131,9 +131,10 @@ fn report(alloc: Global, fails: Option<u64>) -> Result<MemoryWorld, NoMemory>
     ensures { IfOk result (λ world. world.report ≡ []) }
 {
     let mut out = MemoryWorld::new(alloc)?;
-    if let Some(nth) = fails {
-        out.fail_write(nth)?;
-    }
+    let Some(nth) = fails else {
+        return Ok(out);
+    };
+    out.fail_write(nth)?;
     Ok(out)
 }
 
