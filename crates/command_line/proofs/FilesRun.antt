@@ -39,7 +39,8 @@ runs_files {W} ledger may faults refused words status old new printed none runs 
       subst (λ (calls : List Event). Performs ⊥ may words status (shown_after p calls) (shown_after p new.calls)) none
       ((runs.performs plain).bytes p h);
   watches = λ watch p h.
-      subst (λ (calls : List Event). Watches ⊥ words status (shown_after p calls)) none ((runs.watches watch).bytes p h);
+      subst (λ (calls : List Event). Watches ⊥ words status (shown_after p calls)) none
+      ((runs.watches watch).bytes p h);
   taps = λ pairs asks. tapped pairs (runs.taps pairs asks);
 }
   where

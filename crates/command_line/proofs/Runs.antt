@@ -23,7 +23,8 @@ begins words pairs asks = asks.taps 0 (let some = asks.some in omega (arith, som
 
 -- words that do not ask for a capture to be watched, and for no tap
 pub plain_watch : (words : List (List ℕ)) → ¬ BeginsWithTap words → ¬ AsksToWatch words → begins_watch words ≡ false
-plain_watch words no_tap no_watch = go (begins_watch words) (λ watch. no_watch (record { no_tap = no_tap; watch = watch }))
+plain_watch words no_tap no_watch =
+    go (begins_watch words) (λ watch. no_watch (record { no_tap = no_tap; watch = watch }))
   where
     go : (b : Bool) → ¬ (b ≡ true) → b ≡ false
     go true not = absurd (not refl)

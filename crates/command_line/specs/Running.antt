@@ -59,12 +59,13 @@ HasRefused faults None = ⊥
 HasRefused faults (Some world) = 0 < faults world
 
 -- Nothing was asked of the world: memory ran out, or the file of a tap could not be created.
-pub record IsNotBegun {W X : Type 0} (faults : X → ℕ) (refused : Option X) (status : Status) (old new : W) : Type 0 where
+pub record IsNotBegun {W X : Type 0} (faults : X → ℕ) (refused : Option X) (status : Status)
+    (old new : W) : Type 0 where
   pub cause : (status ≡ NoMemory) ⊎ ((status ≡ WriteFault) × HasRefused faults refused)
   pub same : new ≡ old
 
--- What a run of the words promises, for a world of which these are the four views. Lines are printed in a world that has
--- this ledger in the end.
+-- What a run of the words promises, for a world of which these are the four views. Lines are printed in a world that
+-- has this ledger in the end.
 pub record Runs {W X : Type 0} (honest : Start → W → Type 0) (shows : Start → W → Shown) (ledger : W → Ledger)
     (healthy : W → Type 0) (may : ℕ → Type 0) (faults : X → ℕ) (refused : Option X) (words : List (List ℕ))
     (status : Status) (old new : W) (printed : Ledger) : Type 0 where
@@ -84,8 +85,8 @@ abbrev pub AreNamed : {T : Type 0} → (T → List ℕ) → List (List ℕ) → 
 AreNamed {T} label words taps =
     (k : ℕ) (tap : T) → slice_get taps k ≡ Some tap → slice_get words (2 * k + 1) ≡ Some (label tap)
 
--- Each tap sits in the seat of its pair, has the name that stands there, and mirrors what the released capture took: all
--- of it where it did not fail.
+-- Each tap sits in the seat of its pair, has the name that stands there, and mirrors what the released capture took:
+-- all of it where it did not fail.
 pub record TapsMirror {W T : Type 0} (honest : Start → W → Type 0) (shows : Start → W → Shown) (ledger : W → Ledger)
     (tells : T → Type 0) (seen : T → List ℕ) (faults lacks : T → ℕ) (label : T → List ℕ)
     (words : List (List ℕ)) (pairs : ℕ) (world : W) (seats : List (Seat T)) : Type 0 where
@@ -108,7 +109,8 @@ pub record AskedNothing (tells : List ℕ → NamedFile → Type 0) (same : Opti
   pub cause : (status ≡ NoMemory) ⊎ ((status ≡ BadWords) × HasClash tells words same)
   pub none : calls ≡ []
 
--- What a run of the words promises where its files had these calls: by each beginning of which their answers are honest.
+-- What a run of the words promises where its files had these calls: by each beginning of which their answers are
+-- honest.
 pub record RunsFiles {X : Type 0} (may : ℕ → Type 0) (faults : X → ℕ) (refused : Option X) (words : List (List ℕ))
     (status : Status) (calls : List Event) : Type 0 where
   pub bad_words : status ≡ BadWords → AreBad words

@@ -1,5 +1,6 @@
 ghost use Rattle.std.specs.Prelude.{◌≡◌, ◌<◌, ℕ, IfSome, None, true, false, length};
-ghost use Rattle.command_words.specs.Clashes.{Clashes, IsOther, MayBeOne, MayTell, NoneClash, name_of};
+ghost use Rattle.command_words.specs.Clashes.{Clashes, IsOther, MayBeOne, MayTell, NoneClash};
+ghost use Rattle.command_words.specs.Clashes.{name_of};
 ghost use Rattle.command_words.specs.Clashes.{word_at};
 ghost use Rattle.command_words.specs.declared.clashes.OtherName.{OtherName};
 

@@ -44,7 +44,8 @@ module _ {T : Type 0} (saw missed : T → List Packet → Type 0) (faults lacks 
   })
 
   pub is_taken : (tap new : T) (skip quota : ℕ) (packet : Packet) → skip ≡ 0 → 0 < quota
-      → ((before : List Packet) → saw tap before → saw new (before ++ packet ∷ [])) → faults tap ≤ faults new → lacks tap ≤ lacks new
+      → ((before : List Packet) → saw tap before → saw new (before ++ packet ∷ [])) → faults tap ≤ faults new
+      → lacks tap ≤ lacks new
       → Stays saw missed faults lacks (packet ∷ []) (record { tap = tap; skip = skip; quota = quota })
       (record { tap = new; skip = skip; quota = quota - 1 })
   is_taken tap new skip quota packet no_skip some took more_faults more_lacks = rw no_skip (record {

@@ -1,5 +1,6 @@
 -- What stands on the report of the one tap of a deck.
-use Rattle.std.proofs.Common.{◌≡◌, ◌≤◌, ◌<◌, ◌+◌, ℕ, zero, suc, Bool, true, false, List, [], ◌∷◌, ◌++◌, length, take, Option}
+use Rattle.std.proofs.Common.{◌≡◌, ◌≤◌, ◌<◌, ◌+◌, ℕ, zero, suc, Bool, true, false, List, [], ◌∷◌, ◌++◌, length, take}
+use Rattle.std.proofs.Common.{Option}
 use Rattle.std.proofs.Common.{Some, None, ◌⊎◌}
 use Rattle.std.proofs.Common.{refl, sym, ap, ◌∙◌, subst, arith, append_assoc, append-nil, inl, inr, slice_get}
 use Rattle.std.proofs.Math.Seq.{take-append-add}
@@ -15,7 +16,8 @@ use Rattle.packet_taps.specs.declared.place.Place.{Place}
 use Rattle.packet_taps.specs.declared.place.Place.TheVariants.{Seated, Lost, Out}
 use Rattle.packet_taps.specs.declared.place.Taken.{Taken}
 use Rattle.packet_taps.specs.declared.printing.Only.{Only}
-use Rattle.packet_taps.specs.Lines.{Counts, HasBegunToPrint, HasPrinted, IsFirstPart, MissedLine, Printing, SawLines, line_of}
+use Rattle.packet_taps.specs.Lines.{Counts, HasBegunToPrint, HasPrinted, IsFirstPart, MissedLine, Printing, SawLines}
+use Rattle.packet_taps.specs.Lines.{line_of}
 use Rattle.packet_taps.specs.Lines.{lines_of}
 use Rattle.packet_taps.specs.Places.{AreShown, HasShown, IsLost, IsShown, Stays}
 use Rattle.packet_taps.specs.declared.command.Watched.TheVariants as watched
@@ -48,7 +50,8 @@ pub lines-one : (a : List Packet) (p : Packet) → lines_of (a ++ p ∷ []) ≡ 
 lines-one a p = lines-append a (p ∷ []) ∙ ap (λ l. lines_of a ++ l) (append-nil (line_of p))
 
 -- the lines of the first packets are a first part of all lines
-pub lines-first : (n k : ℕ) (packets : List Packet) → IsFirstPart (lines_of packets) (take k (lines_of (take n packets)))
+pub lines-first : (n k : ℕ) (packets : List Packet)
+    → IsFirstPart (lines_of packets) (take k (lines_of (take n packets)))
 lines-first zero k packets = let e : take k [] ≡ [] = nothing k in (0, e)
   where
     nothing : (k : ℕ) → take {A = ℕ} k [] ≡ []
@@ -172,7 +175,8 @@ module _ {V : Type 0} (honest : Start → V → Type 0) (shows : Start → V →
   one_prints old [] only fresh shown is = absurd is
   one_prints old (Seated taken ∷ []) only fresh shown is =
       let stays = one_shown saw missed (λ t. t.faults) (λ t. t.lacks) packets old (Seated taken) shown in
-      let all = subst (λ (t : Printing V). HasPrinted honest shows (lines_of (window old.skip old.quota packets)) t.world)
+      let all =
+      subst (λ (t : Printing V). HasPrinted honest shows (lines_of (window old.skip old.quota packets)) t.world)
       (sym is.1) (stays.saw_window [] fresh).1 in
       record {
         whole = λ there. all;

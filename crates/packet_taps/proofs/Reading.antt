@@ -20,8 +20,8 @@ use Rattle.packet_taps.specs.Watching.{AreFirst}
 -- These packets were read, and shown to the taps.
 pub record HasWatched {S T : Type 0} (reads : S → List ℕ → S → Type 0) (honest : Start → S → Type 0)
     (remains : Start → S → List ℕ) (source_faults : S → ℕ) (healthy : S → Type 0)
-    (saw missed : T → List Packet → Type 0) (faults lacks : T → ℕ) (old now : S) (reader : Format) (before after : List (Place T))
-    (count : ℕ) : Type 0 where
+    (saw missed : T → List Packet → Type 0) (faults lacks : T → ℕ) (old now : S) (reader : Format)
+    (before after : List (Place T)) (count : ℕ) : Type 0 where
   pub packets : List Packet
   pub read : HasReadAny reads old now reader packets
   pub format : (p : Start) → honest p now → IsFormatOf (remains p old) reader

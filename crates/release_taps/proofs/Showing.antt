@@ -37,7 +37,8 @@ labels-set label (z ∷ seats) (suc i) was new there same =
     ap (λ l. label z.tap ∷ l) (labels-set label seats i was new there same)
 
 -- those of taps that were seated
-pub labels-seated : {T : Type 0} (label : T → List ℕ) (taps : List T) → labels_of label (map seated taps) ≡ map label taps
+pub labels-seated : {T : Type 0} (label : T → List ℕ) (taps : List T)
+    → labels_of label (map seated taps) ≡ map label taps
 labels-seated label [] = refl
 labels-seated label (tap ∷ taps) = ap (λ l. label tap ∷ l) (labels-seated label taps)
 

@@ -19,7 +19,8 @@ impl<T: Tap> Seat<T> {
     /// Shows the tap these bytes, if it is there.
     pub(crate) fn show(&mut self, piece: &[u8])
         ensures same_label { T.label self.new.tap ≡ T.label self.old.tap }
-        ensures shown { IsShown T.tells T.seen T.fault_count T.lack_count piece.now self.old self.new }
+        ensures shown { IsShown T.tells T.seen T.fault_count T.lack_count piece.now
+            self.old self.new }
     {
         if let Shown::Took = self.last {
             self.last = self.tap.show(piece);
@@ -30,7 +31,8 @@ impl<T: Tap> Seat<T> {
 /// Shows these bytes to each tap that is there, in order.
 pub(crate) fn show_each<T: Tap>(seats: &mut [Seat<T>], piece: &[u8])
     ensures same_labels { labels_of T.label seats.new ≡ labels_of T.label seats.old }
-    ensures shown { AreShown T.tells T.seen T.fault_count T.lack_count piece.now seats.old seats.new }
+    ensures shown { AreShown T.tells T.seen T.fault_count T.lack_count piece.now seats.old
+        seats.new }
 {
     for seat in seats.iter_mut() {
         seat.show(piece);

@@ -18,19 +18,20 @@ pub returns-clause-runs : goal.returns-clause-runs
 returns-clause-runs g c =
     let run = c.run_words-run in
     with_words c.args.arguments words_of c.as_slice-texts.result.now
-    (subst (λ w. IfOk c.args.arguments (λ all. w ≡ words_of all)) (sym c.as_slice-texts.ensures.value) c.in-Ok.ensures.words)
-    _ (λ words. RunsFiles (g.C.Clock.may c.args.clock.now) (λ w. (real_ledger w).write_faults) run.result.refused words
+    (subst (λ w. IfOk c.args.arguments (λ all. w ≡ words_of all)) (sym c.as_slice-texts.ensures.value)
+    c.in-Ok.ensures.words) _
+    (λ words. RunsFiles (g.C.Clock.may c.args.clock.now) (λ w. (real_ledger w).write_faults) run.result.refused words
     run.result.status run.result.world.calls)
     (runs_files real_ledger (g.C.Clock.may c.args.clock.now) (λ w. (real_ledger w).write_faults) run.result.refused
-    c.as_slice-texts.result.now run.result.status c.of-world.result run.result.world _ (ap (λ t. t.calls) c.of-world.ensures)
-    run.ensures.runs)
+    c.as_slice-texts.result.now run.result.status c.of-world.result run.result.world _
+    (ap (λ t. t.calls) c.of-world.ensures) run.ensures.runs)
 
 pub returns-clause-prints : goal.returns-clause-prints
 returns-clause-prints g c =
     let run = c.run_words-run in
     with_words c.args.arguments words_of c.as_slice-texts.result.now
-    (subst (λ w. IfOk c.args.arguments (λ all. w ≡ words_of all)) (sym c.as_slice-texts.ensures.value) c.in-Ok.ensures.words)
-    _ (λ words. PrintsFiles words run.result.status run.result.world.calls run.result.out.calls)
+    (subst (λ w. IfOk c.args.arguments (λ all. w ≡ words_of all)) (sym c.as_slice-texts.ensures.value)
+    c.in-Ok.ensures.words) _ (λ words. PrintsFiles words run.result.status run.result.world.calls run.result.out.calls)
     (prints_files c.as_slice-texts.result.now run.result.status c.of-world.result run.result.world c.of-out.result
     run.result.out (ap (λ t. t.calls) c.of-world.ensures) (ap (λ t. t.calls) c.of-out.ensures) run.ensures.prints
     run.ensures.prints_nothing)
@@ -39,21 +40,23 @@ pub returns-clause-mirrors : goal.returns-clause-mirrors
 returns-clause-mirrors g c =
     let run = c.run_words-run in
     with_words c.args.arguments words_of c.as_slice-texts.result.now
-    (subst (λ w. IfOk c.args.arguments (λ all. w ≡ words_of all)) (sym c.as_slice-texts.ensures.value) c.in-Ok.ensures.words)
-    _ (λ words. (pairs : ℕ) → AsksForTaps words pairs
+    (subst (λ w. IfOk c.args.arguments (λ all. w ≡ words_of all)) (sym c.as_slice-texts.ensures.value)
+    c.in-Ok.ensures.words) _
+    (λ words.
+    (pairs : ℕ) → AsksForTaps words pairs
     → IsNotBegun (λ w. (real_ledger w).write_faults) run.result.refused run.result.status [] run.result.world.calls
-    ⊎ TapsMirror (λ p t. IsHonest p t.calls) (λ p t. shown_after p t.calls)
-    (λ t. real_ledger t.world) (λ t. (t.faults ≡ 0) × (t.lacks ≡ 0)) (λ t. sent_to t.file t.world.calls) (λ t. t.faults)
-    (λ t. t.lacks) (λ t. name_of t.file t.world.calls) words pairs
-    run.result.world run.result.taps.items)
+    ⊎ TapsMirror (λ p t. IsHonest p t.calls) (λ p t. shown_after p t.calls) (λ t. real_ledger t.world)
+    (λ t. (t.faults ≡ 0) × (t.lacks ≡ 0)) (λ t. sent_to t.file t.world.calls) (λ t. t.faults) (λ t. t.lacks)
+    (λ t. name_of t.file t.world.calls) words pairs run.result.world run.result.taps.items)
     (λ pairs asks. not_begun (λ w. (real_ledger w).write_faults) run.result.refused run.result.status c.of-world.result
     run.result.world _ (ap (λ t. t.calls) c.of-world.ensures) (run.ensures.mirrors pairs asks))
 
 pub returns-clause-apart : goal.returns-clause-apart
 returns-clause-apart g c =
     with_words c.args.arguments words_of c.as_slice-texts.result.now
-    (subst (λ w. IfOk c.args.arguments (λ all. w ≡ words_of all)) (sym c.as_slice-texts.ensures.value) c.in-Ok.ensures.words)
-    _ (λ words. NoneClash (g.N.Names.may c.args.names.now) words) (c.one_file.ensures.none c.in_default.is)
+    (subst (λ w. IfOk c.args.arguments (λ all. w ≡ words_of all)) (sym c.as_slice-texts.ensures.value)
+    c.in-Ok.ensures.words) _ (λ words. NoneClash (g.N.Names.may c.args.names.now) words)
+    (c.one_file.ensures.none c.in_default.is)
 
 pub returns-clause-no_words : goal.returns-clause-no_words
 returns-clause-no_words g c = read c.args.arguments _ c.in-Ok.ensures.refused
@@ -98,9 +101,11 @@ run_words-run-requires-clause-fresh g c κs within p h =
 pub returns-in-Some-clause-runs : goal.returns-in-Some-clause-runs
 returns-in-Some-clause-runs g c =
     asked_only c.args.arguments words_of c.as_slice-texts.result.now
-    (subst (λ w. IfOk c.args.arguments (λ all. w ≡ words_of all)) (sym c.as_slice-texts.ensures.value) c.in-Ok.ensures.words)
-    (λ words. AskedNothing (g.N.Names.may c.args.names.now) (Some c.in-Some.clash) words BadWords c.of-world.result.calls) _
-    (record {
+    (subst (λ w. IfOk c.args.arguments (λ all. w ≡ words_of all)) (sym c.as_slice-texts.ensures.value)
+    c.in-Ok.ensures.words)
+    (λ words.
+    AskedNothing (g.N.Names.may c.args.names.now) (Some c.in-Some.clash) words BadWords c.of-world.result.calls)
+    _ (record {
       cause = inr (refl, c.in-Some.ensures.found);
       none = ap (λ t. t.calls) c.of-world.ensures;
     })
@@ -108,9 +113,11 @@ returns-in-Some-clause-runs g c =
 pub returns-in-Some-clause-prints : goal.returns-in-Some-clause-prints
 returns-in-Some-clause-prints g c =
     asked_only c.args.arguments words_of c.as_slice-texts.result.now
-    (subst (λ w. IfOk c.args.arguments (λ all. w ≡ words_of all)) (sym c.as_slice-texts.ensures.value) c.in-Ok.ensures.words)
-    (λ words. AskedNothing (g.N.Names.may c.args.names.now) (Some c.in-Some.clash) words BadWords c.of-world.result.calls) _
-    (record {
+    (subst (λ w. IfOk c.args.arguments (λ all. w ≡ words_of all)) (sym c.as_slice-texts.ensures.value)
+    c.in-Ok.ensures.words)
+    (λ words.
+    AskedNothing (g.N.Names.may c.args.names.now) (Some c.in-Some.clash) words BadWords c.of-world.result.calls)
+    _ (record {
       cause = inr (refl, c.in-Some.ensures.found);
       none = ap (λ t. t.calls) c.of-world.ensures;
     })
@@ -118,9 +125,11 @@ returns-in-Some-clause-prints g c =
 pub returns-in-Some-clause-apart : goal.returns-in-Some-clause-apart
 returns-in-Some-clause-apart g c =
     asked_only c.args.arguments words_of c.as_slice-texts.result.now
-    (subst (λ w. IfOk c.args.arguments (λ all. w ≡ words_of all)) (sym c.as_slice-texts.ensures.value) c.in-Ok.ensures.words)
-    (λ words. AskedNothing (g.N.Names.may c.args.names.now) (Some c.in-Some.clash) words BadWords c.of-world.result.calls) _
-    (record {
+    (subst (λ w. IfOk c.args.arguments (λ all. w ≡ words_of all)) (sym c.as_slice-texts.ensures.value)
+    c.in-Ok.ensures.words)
+    (λ words.
+    AskedNothing (g.N.Names.may c.args.names.now) (Some c.in-Some.clash) words BadWords c.of-world.result.calls)
+    _ (record {
       cause = inr (refl, c.in-Some.ensures.found);
       none = ap (λ t. t.calls) c.of-world.ensures;
     })
@@ -128,9 +137,11 @@ returns-in-Some-clause-apart g c =
 pub returns-in-Some-clause-mirrors : goal.returns-in-Some-clause-mirrors
 returns-in-Some-clause-mirrors g c =
     asked_only c.args.arguments words_of c.as_slice-texts.result.now
-    (subst (λ w. IfOk c.args.arguments (λ all. w ≡ words_of all)) (sym c.as_slice-texts.ensures.value) c.in-Ok.ensures.words)
-    (λ words. AskedNothing (g.N.Names.may c.args.names.now) (Some c.in-Some.clash) words BadWords c.of-world.result.calls) _
-    (record {
+    (subst (λ w. IfOk c.args.arguments (λ all. w ≡ words_of all)) (sym c.as_slice-texts.ensures.value)
+    c.in-Ok.ensures.words)
+    (λ words.
+    AskedNothing (g.N.Names.may c.args.names.now) (Some c.in-Some.clash) words BadWords c.of-world.result.calls)
+    _ (record {
       cause = inr (refl, c.in-Some.ensures.found);
       none = ap (λ t. t.calls) c.of-world.ensures;
     })

@@ -18,7 +18,8 @@ returns-in-Ok-tapped-clause-mirrors g c =
       mirrored = rest.mirrored;
       mirrors = subst (λ (n : ℕ). IsMirroring g.W.World.honest g.W.World.shows g.W.World.ledger
           (λ t. (t.faults ≡ 0) × (t.lacks ≡ 0)) (λ t. sent_to t.file t.world.calls) (λ t. t.faults) (λ t. t.lacks)
-          (released_name n c.args.words.now) rest.mirrored rest.world rest.seats.items) c.in-Ok.ensures.count run.mirrors;
+          (released_name n c.args.words.now) rest.mirrored rest.world rest.seats.items) c.in-Ok.ensures.count
+          run.mirrors;
     })
 
 pub returns-in-Err-clause-answers : goal.returns-in-Err-clause-answers

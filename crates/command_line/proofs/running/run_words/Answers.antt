@@ -14,8 +14,8 @@ returns-in-Bad-clause-runs g c =
 pub returns-in-Plain-clause-runs : goal.returns-in-Plain-clause-runs
 returns-in-Plain-clause-runs g c =
     let ran = c.run_plain.ensures in
-    runs-plain _ _ _ _ _ _ _ _ c.run_plain.result.status c.args.world c.run_plain.result.world _ ran.performs ran.watches
-    c.in-Plain.ensures
+    runs-plain _ _ _ _ _ _ _ _ c.run_plain.result.status c.args.world c.run_plain.result.world _ ran.performs
+    ran.watches c.in-Plain.ensures
 
 pub returns-in-Taps-clause-runs : goal.returns-in-Taps-clause-runs
 returns-in-Taps-clause-runs g c =
@@ -25,8 +25,9 @@ returns-in-Taps-clause-runs g c =
 pub returns-in-Plain-clause-read_fault : goal.returns-in-Plain-clause-read_fault
 returns-in-Plain-clause-read_fault g c =
     let ran = c.run_plain.ensures in
-    plain-read_fault _ _ _ _ _ (λ w. (real_ledger w).write_faults) c.run_plain.result.refused c.args.words.now c.run_plain.result.status c.args.world
-    c.run_plain.result.world (g.V.World.ledger c.run_plain.result.out) ran.performs ran.watches
+    plain-read_fault _ _ _ _ _ (λ w. (real_ledger w).write_faults) c.run_plain.result.refused c.args.words.now
+    c.run_plain.result.status c.args.world c.run_plain.result.world (g.V.World.ledger c.run_plain.result.out)
+    ran.performs ran.watches
 
 pub returns-in-Taps-clause-read_fault : goal.returns-in-Taps-clause-read_fault
 returns-in-Taps-clause-read_fault g c =

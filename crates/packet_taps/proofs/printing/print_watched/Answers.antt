@@ -25,12 +25,13 @@ returns-in-Err-clause-prints g c =
 
 pub only_tap-only-requires : goal.only_tap-only-requires
 only_tap-only-requires g c =
-    has_one_line g.V.World.honest g.V.World.shows g.V.World.ledger (watch_names c.args.words.now) (watched_by c.in-Some.names)
-    c.in-Some.ensures
-    (λ it packets answered. (p : _) → g.W.World.honest p c.watch-watched.new.world
+    has_one_line g.V.World.honest g.V.World.shows g.V.World.ledger (watch_names c.args.words.now)
+    (watched_by c.in-Some.names) c.in-Some.ensures
+    (λ it packets answered.
+    (p : _) → g.W.World.honest p c.watch-watched.new.world
     → JudgesWatched (g.W.World.healthy c.args.world.now) it.capture packets answered
-    (g.W.World.shows p c.args.world.now)) c.watch-watched.result c.args.out
-    c.in-Ok.deck c.watch-watched.new.deck c.in-Ok.ensures.ok c.watch-watched.ensures.shown
+    (g.W.World.shows p c.args.world.now)) c.watch-watched.result c.args.out c.in-Ok.deck c.watch-watched.new.deck
+    c.in-Ok.ensures.ok c.watch-watched.ensures.shown
 
 pub returns-clause-judged : goal.returns-clause-judged
 returns-clause-judged g c = λ p h.
@@ -43,22 +44,22 @@ returns-clause-judged g c = λ p h.
 
 pub returns-clause-prints : goal.returns-clause-prints
 returns-clause-prints g c =
-    prints_lines g.V.World.honest g.V.World.shows g.V.World.ledger (watch_names c.args.words.now) (watched_by c.in-Some.names)
-    c.in-Some.ensures
-    (λ it packets answered. (p : _) → g.W.World.honest p c.watch-watched.new.world
+    prints_lines g.V.World.honest g.V.World.shows g.V.World.ledger (watch_names c.args.words.now)
+    (watched_by c.in-Some.names) c.in-Some.ensures
+    (λ it packets answered.
+    (p : _) → g.W.World.honest p c.watch-watched.new.world
     → JudgesWatched (g.W.World.healthy c.args.world.now) it.capture packets answered
-    (g.W.World.shows p c.args.world.now)) c.watch-watched.result c.args.out
-    c.in-Ok.deck c.watch-watched.new.deck c.in-Ok.ensures.ok c.watch-watched.ensures.shown
-    c.ended.result c.only_tap-only.result c.into_world.result c.ended.ensures.ended c.into_world.ensures
-    c.requires.fresh c.only_tap-only.ensures
+    (g.W.World.shows p c.args.world.now)) c.watch-watched.result c.args.out c.in-Ok.deck c.watch-watched.new.deck
+    c.in-Ok.ensures.ok c.watch-watched.ensures.shown c.ended.result c.only_tap-only.result c.into_world.result
+    c.ended.ensures.ended c.into_world.ensures c.requires.fresh c.only_tap-only.ensures
 
 pub returns-clause-write_fault : goal.returns-clause-write_fault
 returns-clause-write_fault g c =
-    fault_counted g.V.World.honest g.V.World.shows g.V.World.ledger (watch_names c.args.words.now) (watched_by c.in-Some.names)
-    c.in-Some.ensures
-    (λ it packets answered. (p : _) → g.W.World.honest p c.watch-watched.new.world
+    fault_counted g.V.World.honest g.V.World.shows g.V.World.ledger (watch_names c.args.words.now)
+    (watched_by c.in-Some.names) c.in-Some.ensures
+    (λ it packets answered.
+    (p : _) → g.W.World.honest p c.watch-watched.new.world
     → JudgesWatched (g.W.World.healthy c.args.world.now) it.capture packets answered
-    (g.W.World.shows p c.args.world.now)) c.watch-watched.result c.args.out
-    c.in-Ok.deck c.watch-watched.new.deck c.in-Ok.ensures.ok c.watch-watched.ensures.shown
-    c.ended.result c.only_tap-only.result c.into_world.result c.ended.ensures.ended c.into_world.ensures
-    c.requires.fresh c.only_tap-only.ensures
+    (g.W.World.shows p c.args.world.now)) c.watch-watched.result c.args.out c.in-Ok.deck c.watch-watched.new.deck
+    c.in-Ok.ensures.ok c.watch-watched.ensures.shown c.ended.result c.only_tap-only.result c.into_world.result
+    c.ended.ensures.ended c.into_world.ensures c.requires.fresh c.only_tap-only.ensures

@@ -10,7 +10,8 @@ loop-seat-preserved g c =
     let within : c.loop-seat.seat-index < length c.loop-seat.seats = omega (arith, below, same) in
     let was = get_or c.loop-seat.seats c.loop-seat.seat-index c.seat-item.result in
     let here = slice_get-get_or c.loop-seat.seats c.loop-seat.seat-index c.seat-item.result within in (
-      labels-set g.T.Tap.label c.loop-seat.seats c.loop-seat.seat-index was c.show.new.self here c.show.ensures.same_label
+      labels-set g.T.Tap.label c.loop-seat.seats c.loop-seat.seat-index was c.show.new.self here
+          c.show.ensures.same_label
           ∙ c.loop-seat.invariant.0,
       shown-next _ _ _ _ _ c.loop-seat.seat-index c.args.seats.now c.loop-seat.seats was c.show.new.self
           c.loop-seat.invariant.1 here c.show.ensures.shown,

@@ -15,9 +15,12 @@ loop-done-preserved g c =
     let noted = rw rest at took.noted in
     let count = rw rest at took.count in
     record {
-      sent = ap (sent_to file) noted ∙ sent_wrote file (take c.in-Took.count (drop done bytes)) c.loop-done.world.calls
+      sent =
+          ap (sent_to file) noted
+          ∙ sent_wrote file (take c.in-Took.count (drop done bytes)) c.loop-done.world.calls
           ∙ ap (λ l. l ++ take c.in-Took.count (drop done bytes)) c.loop-done.invariant.sent
-          ∙ append_assoc (sent_to file c.args.world.now.calls) (take done bytes) (take c.in-Took.count (drop done bytes))
+          ∙ append_assoc (sent_to file c.args.world.now.calls) (take done bytes)
+          (take c.in-Took.count (drop done bytes))
           ∙ ap (λ l. sent_to file c.args.world.now.calls ++ l) (sym (take-add done c.in-Took.count bytes));
       within = omega (arith, count.0, length-drop done bytes);
       name = ap (name_of file) noted ∙ c.loop-done.invariant.name;
