@@ -91,7 +91,7 @@ impl<T> Lane<T> {
         self.queue.push_as::<Sent, R>(rt, &mut sender.pass, item)
     }
 
-    /// Takes the oldest item. There is none only where the lane was empty at one moment of the call.
+    /// Takes the oldest item. Where it gives none, nothing was taken; that the lane was empty then, no clause says.
     pub fn take<R: Wait>(&self, rt: &R, receiver: &mut LaneReceiver<T>) -> Option<T>
         requires of { receiver.old.lane ≡ self.now }
         ensures lane { receiver.new.lane ≡ receiver.old.lane }

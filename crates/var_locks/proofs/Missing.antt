@@ -31,7 +31,7 @@ use Rattle.var_locks.specs.declared.view.View.{View}
 use Rattle.var_locks.specs.Views.{IsMissed, missed_view}
 use Rattle.var_locks.specs.Plays.{Misses}
 use Rattle.var_locks.specs.Words.{thread_word}
-use Rattle.var_locks.specs.Told.{Now, IsLost, IsView, IsStory, IsSound, IsTold}
+use Rattle.var_locks.specs.Told.{Now, IsLost, IsView, IsStory, IsSound, IsTold, WasGoing}
 use Rattle.var_locks.proofs.Placing.{at_word, IsLater, stays_placed, at_later}
 use Rattle.var_locks.proofs.Stepping.{share_stays, thread_in, same_state, in_hand}
 
@@ -199,10 +199,26 @@ module _ {V : Type 0} (m : Meaning V) (fits : ℕ → V → Type 0) (guide : Lis
           missing = missing;
         }
 
-    pub miss_allows : (carried : List (ℕ × VarPart V)) (slots : ℕ)
+    going_at : (s : State (VarPart V) (View V)) (r : IsTold m fits guide p s) → get_elem? s.views id ≡ logic.some w
+        → slice_index s.words (thread_word m.vars e.thread) ≢ 1 → WasGoing m fits guide p w e.thread
+    going_at s r here not = record {
+      now = r.now;
+      sound = r.sound;
+      seat = id;
+      view = r.at.view id w here;
+      going = going (r.now.ended e.thread) refl;
+    }
+      where
+        going : (b : Bool) → r.now.ended e.thread ≡ b → r.now.ended e.thread ≡ false
+        going false is = is
+        going true is = absurd (not (r.at.ended e.thread under ∙ ap (λ (c : Bool). cond c 1 0) is))
+
+    pub miss_allows : (known : View V → ℕ → Type 0) → (WasGoing m fits guide p w e.thread → known w e.thread)
+        → (carried : List (ℕ × VarPart V)) (slots : ℕ)
         → Allows (IsTold m fits guide p) slots id (w, carried) (thread_word m.vars e.thread) (λ i. i)
-        (Misses e (step slots (thread_word m.vars e.thread) 0 0 logic.none) (w, carried))
-    miss_allows carried slots s r wide here small = go (is_or (slice_index s.words (thread_word m.vars e.thread)) 1)
+        (Misses known e (step slots (thread_word m.vars e.thread) 0 0 logic.none) (w, carried))
+    miss_allows known to carried slots s r wide here small =
+        go (is_or (slice_index s.words (thread_word m.vars e.thread)) 1)
       where
         inside : thread_word m.vars e.thread < length s.words
         inside = thread_in m fits guide p id s r e.thread under
@@ -214,7 +230,7 @@ module _ {V : Type 0} (m : Meaning V) (fits : ℕ → V → Type 0) (guide : Lis
             × Rattle.atomic_table.specs.Table.Valid s.homes carried a
             × IsTold m fits guide p
             (stepped s (thread_word m.vars e.thread) (slice_index s.words (thread_word m.vars e.thread)) id carried z a)
-            × Misses e (step slots (thread_word m.vars e.thread) 0 0 logic.none) (w, carried)
+            × Misses known e (step slots (thread_word m.vars e.thread) 0 0 logic.none) (w, carried)
             (slice_index s.words (thread_word m.vars e.thread))
             (z, Rattle.atomic_table.specs.Table.carried_after carried a)
         go (inl one) = (
@@ -233,5 +249,5 @@ module _ {V : Type 0} (m : Meaning V) (fits : ℕ → V → Type 0) (guide : Lis
           tt,
           subst (λ (q : State (VarPart V) (View V)). IsTold m fits guide p q)
               (sym (same_state m fits guide p id s w carried (thread_word m.vars e.thread) inside here)) r,
-          ((λ one. absurd (not one)), λ _. refl),
+          ((λ one. absurd (not one)), λ _. (refl, to (going_at s r here not))),
         )

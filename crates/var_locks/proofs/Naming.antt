@@ -9,7 +9,7 @@ use Rattle.master_core.specs.Mastered.{Mastered}
 use Rattle.atomic_table.specs.Table.{State, Me, Allows, Splits, Joins}
 use Rattle.var_locks.specs.declared.view.View.{View}
 use Rattle.var_locks.specs.Codes.{master_code}
-use Rattle.var_locks.specs.Told.{IsTold, IsToldOf}
+use Rattle.var_locks.specs.Told.{IsTold, IsToldOf, WasGoing, WasGoingOf}
 
 module _ {P V : Type 0} (meaning : P → Meaning V) (fits : P → ℕ → V → Type 0) (c : Coded P) (d : Coded V)
     (program opening : Gv) (guide : List Lane) (q : P) (p : Mastered V) (is : c.code q ≡ program)
@@ -21,6 +21,14 @@ module _ {P V : Type 0} (meaning : P → Meaning V) (fits : P → ℕ → V → 
       let one : p ≡ o = (master_code d).inj p o (opens ∙ sym co) in
       subst (λ (z : P). IsTold (meaning z) (fits z) guide o s) same
       (subst (λ (z : Mastered V). IsTold (meaning q) (fits q) guide z s) one told)
+
+  pub going_of : (w : View V) (t : ℕ) → WasGoing (meaning q) (fits q) guide p w t
+      → WasGoingOf meaning fits c d program opening guide w t
+  going_of w t was r o cr co =
+      let same : q ≡ r = c.inj q r (is ∙ sym cr) in
+      let one : p ≡ o = (master_code d).inj p o (opens ∙ sym co) in
+      subst (λ (z : P). WasGoing (meaning z) (fits z) guide o w t) same
+      (subst (λ (z : Mastered V). WasGoing (meaning q) (fits q) guide z w t) one was)
 
   pub allows_of : (slots id : ℕ) (me : Me (VarPart V) (View V)) (i : ℕ) (f : ℕ → ℕ)
       (then : ℕ → Me (VarPart V) (View V) → Type 0) → Allows (IsTold (meaning q) (fits q) guide p) slots id me i f then

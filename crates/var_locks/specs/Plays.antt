@@ -44,10 +44,11 @@ Brings {V} c note st me found now = (n : Note V) × (c.code n ≡ note) × (now 
 abbrev pub Gives : {V : Type 0} → Step (VarPart V) → Me (VarPart V) (View V) → ℕ → Me (VarPart V) (View V) → Type 0
 Gives st me found now = now ≡ (empty_hand me.0, rest me.1)
 
--- where the word was 1, the entry is missing
-abbrev pub Misses : {V : Type 0} → MissedEntry → Step (VarPart V) → Me (VarPart V) (View V) → ℕ
+-- where the word was 1, the entry is missing; elsewhere the view stays, and this is known of it and of the entry's thread
+abbrev pub Misses : {V : Type 0} → (View V → ℕ → Type 0) → MissedEntry → Step (VarPart V) → Me (VarPart V) (View V) → ℕ
     → Me (VarPart V) (View V) → Type 0
-Misses e st me found now = (found ≡ 1 → now ≡ (missed_view me.0 e, me.1)) × (found ≢ 1 → now ≡ me)
+Misses {V} known e st me found now =
+    (found ≡ 1 → now ≡ (missed_view me.0 e, me.1)) × (found ≢ 1 → (now ≡ me) × known me.0 e.thread)
 
 abbrev pub Ends : {V : Type 0} → Step (VarPart V) → Me (VarPart V) (View V) → ℕ → Me (VarPart V) (View V) → Type 0
 Ends st me found now = now ≡ (ended_view me.0, me.1)

@@ -1,6 +1,6 @@
 -- The rule of the locks. It is over every run of which the opening master is the end: masters do not know their past.
 use base.Stored.{Gv}
-use Rattle.std.specs.Prelude.{◌≡◌, ℕ, ◌+◌, ◌<◌, ◌≤◌, ◌^◌, Bool, true, cond, List, [], length, Option, Some, None}
+use Rattle.std.specs.Prelude.{◌≡◌, ℕ, ◌+◌, ◌<◌, ◌≤◌, ◌^◌, Bool, true, false, cond, List, [], length, Option, Some, None}
 use Rattle.std.specs.Prelude.{slice_index, slice_index_or}
 use Rattle.std.specs.Coded.{Coded}
 use mathlib.Core.Option as logic
@@ -130,6 +130,24 @@ abbrev pub IsToldOf : {P V : Type 0} → (P → Meaning V) → (P → ℕ → V 
 IsToldOf {P} {V} meaning fits c d program opening guide s =
     (q : P) (p : Mastered V) → c.code q ≡ program → (master_code d).code p ≡ opening
     → IsTold (meaning q) (fits q) guide p s
+
+-- At one moment
+
+-- At one moment of the round the rule held, a seat had this view, and thread t had not ended.
+pub record WasGoing {V : Type 0} (m : Meaning V) (fits : ℕ → V → Type 0) (guide : List Lane) (p : Mastered V)
+    (w : View V) (t : ℕ) : Type 0 where
+  pub now : Now V
+  pub sound : IsSound m fits guide p now
+  pub seat : ℕ
+  pub view : IsView m.vars (length p.threads) now seat w
+  pub going : now.ended t ≡ false
+
+-- the same of the round whose program and opening master have these codes
+abbrev pub WasGoingOf : {P V : Type 0} → (P → Meaning V) → (P → ℕ → V → Type 0) → Coded P → Coded V → Gv → Gv → List Lane
+    → View V → ℕ → Type 0
+WasGoingOf {P} {V} meaning fits c d program opening guide w t =
+    (q : P) (p : Mastered V) → c.code q ≡ program → (master_code d).code p ≡ opening
+    → WasGoing (meaning q) (fits q) guide p w t
 
 -- At first
 

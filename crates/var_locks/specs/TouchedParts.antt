@@ -103,6 +103,19 @@ abbrev pub MustWait : {V : Type 0} → List Lane → ℕ → MissedEntry → Me 
 MustWait {V} guide word e me = (x : VarPart V) × (t : ℕ) × (n : ℕ) × (read : Bool) × MayMiss guide me.0 e x t n read
     × (me.1 ≡ (e.var, x) ∷ []) × (word ≡ x.places + x.places)
 
+-- The guide says to wait for an entry at what it has in hand, and of the entry's thread, where it is one of the round,
+-- this is known.
+pub record MustTryAgain {V : Type 0} (known : View V → ℕ → Type 0) (guide : List Lane) (threads : ℕ) (a : Access)
+    (part : ThreadPart) (me : Me (VarPart V) (View V)) (x : VarPart V) (u k : ℕ) : Type 0 where
+  pub slots : me.1 ≡ (a.var, x) ∷ []
+  pub waits : WaitsFor guide a.thread (part.counts.entries + 1) a.var a.read x.places x.readers u k
+  pub going : u < threads → known me.0 u
+
+abbrev pub MayStillCome : {V : Type 0} → (View V → ℕ → Type 0) → List Lane → ℕ → Access → ThreadPart
+    → Me (VarPart V) (View V) → Type 0
+MayStillCome {V} known guide threads a part me =
+    (x : VarPart V) × (u : ℕ) × (k : ℕ) × MustTryAgain known guide threads a part me x u k
+
 -- the entry (u, k), found missing at variable v, which was touched so often
 abbrev pub missed_at : ℕ → ℕ → ℕ → ℕ → MissedEntry
 missed_at u k v places = record { thread = u; number = k; var = v; places = places }

@@ -14,6 +14,7 @@ ghost use Rattle.var_locks.specs.Views.{missed_view, ended_view};
 ghost use Rattle.var_locks.specs.Plays.{Finds};
 ghost use Rattle.var_locks.specs.Rounds.{IsRoundOf, Opens, CanTake, CanNote, CanBring, CanGive};
 ghost use Rattle.var_locks.specs.Rounds.{CanMiss, CanEnd, CanSplit};
+ghost use Rattle.var_locks.specs.Told.{WasGoingOf};
 
 use crate::lines::var_word;
 use crate::spaced::Slot;
@@ -276,7 +277,7 @@ pub(crate) fn give_back<P: Program, J: Round>(
 }
 
 /// Whether the thread of an entry ended, for which the guide says to wait at the variable in hand. If so, the entry is
-/// missing.
+/// missing; if not, the thread had not ended at one moment of the call.
 fn misses_as<P: Program, J: Round, N: Named>(
     program: &P,
     shared: &Lock<P, J>,
@@ -295,14 +296,16 @@ fn misses_as<P: Program, J: Round, N: Named>(
     ensures missing { result ≡ true
         → token.new.me ≡ (missed_view token.old.me.0 N.entry, token.old.me.1) }
     ensures going { result ≡ false → token.new.me ≡ token.old.me }
+    ensures at_work { result ≡ false → WasGoingOf P.meaning P.fits P.row.coded P.Value.row.coded
+        J.program J.opening J.guide token.old.me.0 missed.thread }
 {
     let _ = program;
     let _ = missed;
-    shared.load::<Missed<N>>(token, word) == 1
+    shared.load::<Missed<P, J, N>>(token, word) == 1
 }
 
 /// Whether the thread of an entry ended, for which the guide says to wait at the variable in hand. If so, the entry is
-/// missing.
+/// missing; if not, the thread had not ended at one moment of the call.
 pub(crate) fn misses<P: Program, J: Round>(
     program: &P,
     shared: &Lock<P, J>,
@@ -320,6 +323,8 @@ pub(crate) fn misses<P: Program, J: Round>(
     ensures missing { result ≡ true
         → token.new.me ≡ (missed_view token.old.me.0 missed, token.old.me.1) }
     ensures going { result ≡ false → token.new.me ≡ token.old.me }
+    ensures at_work { result ≡ false → WasGoingOf P.meaning P.fits P.row.coded P.Value.row.coded
+        J.program J.opening J.guide token.old.me.0 missed.thread }
 {
     misses_as::<P, J, Brand>(program, shared, token, word, missed)
 }

@@ -1,6 +1,6 @@
 //! A seat's touch or read of the variable in hand.
 ghost use Rattle.std.specs.Prelude.{◌≡◌, ℕ, ◌+◌, ◌<◌, ◌≤◌, ◌^◌, [], ◌∷◌, IfOk, IfSome, IfNone};
-ghost use Rattle.std.specs.Prelude.{OnErr, true, false};
+ghost use Rattle.std.specs.Prelude.{OnErr, true, false, length};
 ghost use Rattle.master_core.specs.Mastered.{moves_made};
 ghost use Rattle.master_core.specs.declared.parts.VarPart as var_of;
 ghost use Rattle.replay_guide.specs.Turns.{WaitsFor};
@@ -9,7 +9,8 @@ ghost use Rattle.var_locks.specs.Rounds.{AreVarsOf, CanMiss};
 ghost use Rattle.var_locks.specs.Views.{empty_hand, missed_view};
 ghost use Rattle.var_locks.specs.TouchedParts.{IsWanted, HasSlot, Works, WorksBy, next_word};
 ghost use Rattle.var_locks.specs.TouchedParts.{entry_waited, HasThread, IsTaken, MayWork, MustWait};
-ghost use Rattle.var_locks.specs.TouchedParts.{MadeBy, MadeNone, Comes, ComesOf};
+ghost use Rattle.var_locks.specs.TouchedParts.{MadeBy, MadeNone, Comes, ComesOf, MayStillCome};
+ghost use Rattle.var_locks.specs.Told.{WasGoingOf};
 
 use crate::keeping::copied;
 use crate::lines::thread_word;
@@ -236,7 +237,7 @@ impl<P: Program, J: Round> Vars<P, J> {
     }
 
     /// Whether the thread of an entry ended, for which the guide says to wait at the variable in hand. If so, the entry
-    /// is missing.
+    /// is missing; if not, the thread had not ended at one moment of the call.
     fn looks_missing(&self, program: &P, token: &mut Token<P::Value>, missed: MissedEntry) -> bool
         requires of { AreVarsOf P.meaning P.row.coded P.Value.row.coded program.now self.now }
         requires table { token.old.table_id ≡ self.now.round }
@@ -246,6 +247,9 @@ impl<P: Program, J: Round> Vars<P, J> {
         ensures missing { result ≡ true
             → token.new.me ≡ (missed_view token.old.me.0 missed, token.old.me.1) }
         ensures going { result ≡ false → token.new.me ≡ token.old.me }
+        ensures at_work { result ≡ false → missed.thread < length J.threads
+            → WasGoingOf P.meaning P.fits P.row.coded P.Value.row.coded
+            J.program J.opening J.guide token.old.me.0 missed.thread }
     {
         if missed.thread as usize >= self.threads {
             return false;
@@ -255,7 +259,7 @@ impl<P: Program, J: Round> Vars<P, J> {
     }
 
     /// Gives the variable in hand back, at which the guide says to wait for an entry. Whether its thread ended the
-    /// round without it.
+    /// round without it; if not, it had not ended at one moment of the call.
     fn wait_on(
         &self,
         program: &P,
@@ -272,6 +276,9 @@ impl<P: Program, J: Round> Vars<P, J> {
         ensures missing { result ≡ true
             → token.new.me ≡ (empty_hand (missed_view token.old.me.0 missed), []) }
         ensures going { result ≡ false → token.new.me ≡ (empty_hand token.old.me.0, []) }
+        ensures at_work { result ≡ false → missed.thread < length J.threads
+            → WasGoingOf P.meaning P.fits P.row.coded P.Value.row.coded
+            J.program J.opening J.guide token.old.me.0 missed.thread }
     {
         let missing = self.looks_missing(program, token, missed);
         give_back::<P, J>(program, &self.table.shared, token, missed.var, word);
@@ -306,7 +313,8 @@ impl<P: Program, J: Round> Vars<P, J> {
         }
     }
 
-    /// Makes the touch or the read that is next of the variable in hand, if the guide does not say to wait there.
+    /// Makes the touch or the read that is next of the variable in hand, if the guide does not say to wait there. None
+    /// comes only where the thread for whose entry it waits had not ended at one moment of the call.
     fn try_on<G: Gate>(
         &self,
         setting: &Setting<'_, P, G>,
@@ -327,6 +335,9 @@ impl<P: Program, J: Round> Vars<P, J> {
         ensures comes { IfSome result (λ r. Comes (P.meaning setting.now.program.now) J.guide
             access part.old part.new token.old.me token.new.me r) }
         ensures waits { IfNone result (MadeNone token.old.me token.new.me part.old part.new) }
+        ensures at_work { IfNone result (MayStillCome (WasGoingOf P.meaning P.fits P.row.coded
+            P.Value.row.coded J.program J.opening J.guide) J.guide (length J.threads)
+            access part.old token.old.me) }
     {
         let readers = readers_of::<P, J>(&self.table.shared, token, access.var as usize);
         let number = part.counts.entries + 1;
@@ -347,7 +358,8 @@ impl<P: Program, J: Round> Vars<P, J> {
     }
 
     /// Makes the touch or the read that the seat's thread wants, as soon as no other seat has the variable and the
-    /// guide does not say to wait.
+    /// guide does not say to wait. It tries again only where the thread for whose entry it waits was still at work at
+    /// one moment of the try before.
     pub(crate) fn touch_on<R: Wait, G: Gate>(
         &self,
         rt: &R,

@@ -170,15 +170,17 @@ impl Named for Brand {
     ghost entry = { record { thread = 0; number = 0; var = 0; places = 0 } };
 }
 
-/// A seat looks whether the thread of an entry ended, and if so finds the entry missing.
-pub struct Missed<N> {
-    entry: PhantomData<N>,
+/// A seat looks whether the thread of an entry ended, and if so finds the entry missing. If not, the thread was going.
+pub struct Missed<P, J, N> {
+    of: PhantomData<(P, J, N)>,
 }
 
-impl<V, N: Named> Play<Slot<V>, View<V>> for Missed<N> {
+impl<P: Program, J: Round, N: Named> Play<Slot<P::Value>, View<P::Value>> for Missed<P, J, N> {
     ghost use Rattle.var_locks.specs.Plays.{Misses};
+    ghost use Rattle.var_locks.specs.Told.{WasGoingOf};
 
-    ghost then = { Misses N.entry };
+    ghost then = { Misses (WasGoingOf P.meaning P.fits P.row.coded P.Value.row.coded
+        J.program J.opening J.guide) N.entry };
 }
 
 /// A seat ends the round for its thread.

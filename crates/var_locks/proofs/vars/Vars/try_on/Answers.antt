@@ -4,6 +4,7 @@ use Rattle.atomic_table.specs.Table.{Me}
 use Rattle.var_locks.specs.declared.view.View.{View}
 use Rattle.var_locks.specs.Views.{empty_hand, missed_view}
 use Rattle.var_locks.specs.TouchedParts.{HasTaken, missed_at}
+use Rattle.var_locks.specs.Told.{WasGoingOf}
 use Rattle.var_locks.proofs.Turning.{half, here, passes}
 use Rattle.var_locks.proofs.vars.Vars.try_on.Goals as goal
 
@@ -81,3 +82,25 @@ returns-then-wait_on-clause-comes g c =
           r) places);
       part = refl;
     }
+
+pub returns-clause-at_work : goal.returns-clause-at_work
+returns-clause-at_work g c =
+    let x = c.requires.taken.0 in
+    let h = c.requires.taken.1 in
+    let slots = ap (λ (me : Me (VarPart g.row.P-Value.Denot) (View g.row.P-Value.Denot)). me.1) h.token in
+    let places : c.args.word / 2 ≡ x.places = half x.places c.args.word h.finds.word_is in (
+      x,
+      c.in-Some.thread,
+      c.in-Some.number,
+      record {
+        slots = slots;
+        waits = here c.args.setting.now.guide.now g.J.Round.guide c.requires.guide c.args.access.thread
+            (c.args.part.now.counts.entries + 1) c.args.access.var c.args.access.read (c.args.word / 2)
+            c.readers_of-readers.result x places (c.readers_of-readers.ensures.readers x slots) c.in-Some.thread
+            c.in-Some.number c.in-Some.ensures.waits;
+        going = λ low. subst (λ (me : Me (VarPart g.row.P-Value.Denot) (View g.row.P-Value.Denot)).
+            WasGoingOf g.P.Program.meaning g.P.Program.fits g.row.P.coded g.row.P-Value.coded g.J.Round.program
+            g.J.Round.opening g.J.Round.guide me.0 c.in-Some.thread) c.readers_of-readers.ensures.stays
+            (c.wait_on.ensures.at_work c.if-wait_on.false low);
+      },
+    )
