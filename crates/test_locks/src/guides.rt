@@ -3,7 +3,7 @@ use crate::following::guide_to_run;
 use crate::inputs::inputs_of;
 use crate::outcomes::{Outcome, outcome_of};
 use crate::races::{outcome, race_fresh};
-use crate::racing::Feed;
+use crate::racing::{Feed, MOST_MOVES};
 use crate::steps::Did;
 use crate::turns::take_one_each;
 use crate::weaving::woven;
@@ -84,6 +84,7 @@ fn race_again<P: Program + Sync, R: Threads + Wait + Sync>(
     let feed = Feed {
         inputs: &inputs,
         count,
+        moves: MOST_MOVES,
         time: LATER,
         at_once: true,
     };

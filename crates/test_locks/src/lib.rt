@@ -1,6 +1,6 @@
-//! Tests of numbered locks: rounds in which threads race over one box, and what they come to; the turns in which it is
-//! woven; and what a guide says that rounds follow; and lanes between threads. They stand apart, so that what they test
-//! is proved once.
+//! Tests of numbered locks: rounds in which threads race over one box, and what they come to, also where they end in the
+//! middle of a packet; the turns in which it is woven; and what a guide says that rounds follow; and lanes between
+//! threads. They stand apart, so that what they test is proved once.
 #![tactic(auto)]
 
 #[cfg(test)]
@@ -9,6 +9,8 @@ mod examples;
 mod following;
 #[cfg(test)]
 mod guides;
+#[cfg(test)]
+mod halfway;
 #[cfg(test)]
 mod inputs;
 #[cfg(test)]

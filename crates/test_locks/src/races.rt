@@ -9,7 +9,7 @@ ghost use Rattle.test_locks.specs.Racing.{IsSeatIn};
 
 use crate::inputs::inputs_of;
 use crate::outcomes::{Outcome, outcome_of, shows};
-use crate::racing::{Feed, Ran, run};
+use crate::racing::{Feed, MOST_MOVES, Ran, run};
 use crate::rounds::{close_two, open_two};
 use crate::steps::{Did, did_of};
 use box_program::Program;
@@ -165,6 +165,7 @@ fn raced<P: Program + Sync, R: Threads + Wait + Sync>(
     let feed = Feed {
         inputs: &inputs,
         count,
+        moves: MOST_MOVES,
         time: 0,
         at_once: true,
     };

@@ -14,10 +14,10 @@ use std::sync::Wait;
 use var_locks::{OpenGate, Round, Touched, VarSeat, Vars, is_on_variable};
 
 /// No thread of a test comes to this number of inputs, entries or outputs.
-const MOST_COUNT: u64 = 1 << 40;
+pub const MOST_COUNT: u64 = 1 << 40;
 
 /// The moves that a packet takes at most, with its take and its end.
-const MOST_MOVES: u32 = 64;
+pub const MOST_MOVES: u32 = 64;
 
 /// How long the NAT keeps a mapping without use, in microseconds.
 const IDLE: u64 = 300_000_000;
@@ -28,6 +28,8 @@ pub struct Feed<'a> {
     pub inputs: &'a InputLog,
     /// Each thread takes this number of its first inputs.
     pub count: u64,
+    /// Of each input it makes at most this number of moves; where one is not at its end then, the thread ends the round.
+    pub moves: u32,
     /// The time of the round, in microseconds: a thread's k-th packet is told the time k times 300 s later.
     pub time: u64,
     /// Whether the threads race; else the second begins where the first has ended.
@@ -77,7 +79,8 @@ fn make<P: Program, J: Round, R: Wait>(
     vars.plain(alloc, program, seat, &wants, guide, told, Some(packet))
 }
 
-/// Takes a packet to its end, and adds the moves to what the thread did; whether it came there.
+/// Takes a packet to its end, if it comes there in as many moves as are to be made, and adds the moves to what the
+/// thread did; whether it came there.
 fn run_one<P: Program, J: Round, R: Wait>(
     rt: &R,
     alloc: Global,
@@ -88,7 +91,7 @@ fn run_one<P: Program, J: Round, R: Wait>(
     seat: &mut VarSeat<P>,
     did: &mut Woven,
     packet: &Packet,
-    time: u64,
+    feed: Feed<'_>,
 ) -> bool
     requires of { AreVarsOf P.meaning P.row.coded P.Value.row.coded program.now vars.now }
     requires guide { guide.now ≡ J.guide }
@@ -96,8 +99,10 @@ fn run_one<P: Program, J: Round, R: Wait>(
     requires seat { IsSeatIn vars.now.round thread false seat.old }
     ensures seat { IsSeatIn vars.now.round thread false seat.new }
 {
-    for _made in 0..MOST_MOVES {
-        let stepped = make(rt, alloc, program, vars, guide, thread, seat, packet, time);
+    for _made in 0..feed.moves {
+        let stepped = make(
+            rt, alloc, program, vars, guide, thread, seat, packet, feed.time,
+        );
         let Ok(true) = add(did, thread, &stepped) else {
             return false;
         };
@@ -108,7 +113,7 @@ fn run_one<P: Program, J: Round, R: Wait>(
     false
 }
 
-/// Takes the inputs of the seat's thread to their ends, and ends the round for it.
+/// Takes the inputs of the seat's thread as far as they are to come, and ends the round for it.
 pub fn run<P: Program, J: Round, R: Wait>(
     rt: &R,
     alloc: Global,
@@ -131,7 +136,7 @@ pub fn run<P: Program, J: Round, R: Wait>(
             break;
         };
         if !run_one(
-            rt, alloc, program, vars, guide, thread, &mut seat, &mut did, packet, feed.time,
+            rt, alloc, program, vars, guide, thread, &mut seat, &mut did, packet, feed,
         ) {
             break;
         }

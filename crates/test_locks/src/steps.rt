@@ -27,7 +27,7 @@ pub fn did_of(
 }
 
 /// What the move left, if one was made.
-fn trace_of(stepped: &Stepped) -> Option<Trace> {
+pub fn trace_of(stepped: &Stepped) -> Option<Trace> {
     match stepped {
         Stepped::Took(number) => Some(Trace::Took(*number)),
         Stepped::Did(entry) => Some(Trace::Did(*entry)),

@@ -1,7 +1,7 @@
 //! Two threads over the monitor box, one after the other on one thread of the machine: exactly what each did.
 use crate::inputs::inputs_of;
 use crate::races::race_fresh;
-use crate::racing::Feed;
+use crate::racing::{Feed, MOST_MOVES};
 use crate::steps::Did;
 use access_log::{StampedEntry, What};
 use box_program::Program;
@@ -28,6 +28,7 @@ pub fn take_one_each<P: Program + Sync, R: Threads + Wait + Sync>(
     let feed = Feed {
         inputs,
         count: 1,
+        moves: MOST_MOVES,
         time: 0,
         at_once: false,
     };
@@ -55,7 +56,7 @@ fn touch(thread: u32, number: u64, var: u32, place: u64, stamp: Stamp) -> Trace 
 
 /// What each thread does: it counts the packet in the table of its flow, and in the totals, which thread 1 finds as
 /// thread 0 left them.
-fn wanted() -> [[Trace; 5]; 2] {
+pub fn wanted() -> [[Trace; 5]; 2] {
     [
         [
             Trace::Took(1),
@@ -75,7 +76,7 @@ fn wanted() -> [[Trace; 5]; 2] {
 }
 
 /// Whether this is what the thread did.
-fn did(receipts: &[Woven], thread: usize, wanted: &[Trace]) -> bool {
+pub fn did(receipts: &[Woven], thread: usize, wanted: &[Trace]) -> bool {
     let Some(steps) = receipts.get(thread) else {
         return false;
     };
