@@ -2,6 +2,7 @@
 //! machine gives. What they did is a part of a script, and the recovering system stands where that part leads.
 #![tactic(auto)]
 
+mod crew;
 mod draws;
 mod gathering;
 mod moving;

@@ -8,6 +8,7 @@ ghost use Rattle.var_locks.specs.Wanting.{on_variable, seat_wants};
 ghost use Rattle.live_workers.specs.Telling.{IsAtHand};
 ghost use Rattle.live_workers.specs.Moving.{ComesTo, HasInput, input_wanted, touch_shown};
 
+use crate::crew::Crew;
 use box_program::Program;
 use input_logger::InputLog;
 use master_core::{Counts, Stepped, Wants};
@@ -38,6 +39,7 @@ pub(crate) struct Surroundings<'a, P: Program, J: Round, C, G> {
     pub(crate) inputs: &'a InputLog,
     pub(crate) clock: &'a C,
     pub(crate) gate: &'a G,
+    pub(crate) crew: &'a Crew,
 }
 
 /// The answer at hand for what a thread wants: where none is recorded of a clock or a draw, the time, or the next word

@@ -14,6 +14,7 @@ ghost use Rattle.live_workers.specs.Working.{Course, Given, HasEnded, IsGivenAmo
 ghost use Rattle.live_workers.specs.Racing.{AllAnswered, AllEnded, AreLeftBy, AreReadyFor};
 ghost use Rattle.live_workers.specs.Racing.{IsRace};
 
+use crate::crew::Crew;
 use crate::draws::Draws;
 use crate::gathering::{Left, part_all, workers_of};
 use crate::moving::{Sender, Surroundings};
@@ -30,7 +31,7 @@ use round_join::Moves;
 use round_order::Marks;
 use std::marker::Brand;
 use std::sync::Wait;
-use std::sync::atomic::{AtomicU64, Ordering};
+use std::sync::atomic::Ordering;
 use std::thread;
 use std::thread::{Threads, map_vec};
 use var_locks::{Gate, Round, Vars};
@@ -63,7 +64,7 @@ fn run_all<
     clock: &C,
     gate: &G,
     lanes: &[Lane<Sent>],
-    at_work: &AtomicU64,
+    crew: &Crew,
     most: u64,
     sender: Sender,
     workers: Vec<Worker<P>>,
@@ -93,14 +94,15 @@ fn run_all<
             inputs,
             clock,
             gate,
+            crew,
         };
         let lane = &lanes[worker.seat.thread() as usize];
         let ended = work(rt, &around, lane, most, worker);
-        at_work.fetch_sub(1, Ordering::SeqCst);
+        crew.at_work.fetch_sub(1, Ordering::SeqCst);
         ended
     };
     let ended = map_vec(rt, workers, &run);
-    at_work.store(0, Ordering::SeqCst);
+    crew.at_work.store(0, Ordering::SeqCst);
     Ok(ended?)
 }
 
@@ -141,13 +143,13 @@ fn run_beside<
     ensures ends { IfOk result (λ r. AreEndsOf lanes.now r.1.receivers.items) }
     ensures taken { IfOk result (λ r. AreTaken r.1.receivers.items r.1.frames.items) }
 {
-    let at_work = AtomicU64::new(workers.len() as u64);
+    let crew = Crew::of(guide, &workers);
     let (taken, ended) = thread::join(
         rt,
         || -> Result<Taken, NoMemory>
             requires { AreEndsOf lanes.now receivers.items
                 × All (λ r. r.items ≡ []) receivers.items }
-        { take_in(rt, rt.alloc(), gate, lanes, &at_work, receivers) },
+        { take_in(rt, rt.alloc(), gate, lanes, &crew.at_work, receivers) },
         || -> Result<Vec<Result<Working<P>, NoMemory>>, NoMemory>
             requires { AreVarsOf P.meaning P.row.coded P.Value.row.coded program.now vars.now
                 × (guide.now ≡ J.guide)
@@ -158,8 +160,7 @@ fn run_beside<
                 ended.items) }
         {
             run_all(
-                rt, program, vars, guide, inputs, clock, gate, lanes, &at_work, most, sender,
-                workers,
+                rt, program, vars, guide, inputs, clock, gate, lanes, &crew, most, sender, workers,
             )
         },
     );

@@ -181,7 +181,8 @@ fn go_on<P: Program, J: Round, C: Clock, G: Gate, R: Wait>(
     }
 }
 
-/// Makes the thread's moves, until it made as many as it may or as there is room for, or can make none.
+/// Makes the thread's moves, until it made as many as it may or as there is room for, or can make none. It begins with
+/// the other workers, where entries are followed; where these can't run at once, it ends as where memory runs out.
 fn run<P: Program, J: Round, C: Clock, G: Gate, R: Wait>(
     rt: &R,
     around: &Surroundings<'_, P, J, C, G>,
@@ -208,6 +209,9 @@ fn run<P: Program, J: Round, C: Clock, G: Gate, R: Wait>(
         (inputs_of around.now.inputs.now) most limit working.new.seat
         (length working.new.moves)) }
 {
+    if !around.crew.begin() {
+        return Err(NoMemory);
+    }
     for made in 0..most {
         if limit == Some(made) || !go_on(rt, around, lane, working)? {
             return Ok(());
