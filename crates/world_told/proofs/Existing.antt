@@ -83,20 +83,20 @@ read_of-none : (file : ℕ) (calls : List Event) → are_orderly calls ≡ true 
     → read_of file calls ≡ []
 read_of-none file [] orderly none = refl
 read_of-none file ((Opened k, bytes) ∷ earlier) orderly none =
-    append-nil (read_of file earlier)
-    ∙ read_of-none file earlier (before _ _ earlier orderly) (or_parts (file == k) (opened_in file earlier) none).1
+    let others = or_parts (file == k) (opened_in file earlier) none in
+    append-nil (read_of file earlier) ∙ read_of-none file earlier (before (Opened k) bytes earlier orderly) others.1
 read_of-none file ((Read k, bytes) ∷ earlier) orderly none = elim (cases_Bool (file == k)) [
-  | inl same ↦ absurd (contrary (read_is_opened k bytes earlier (newest _ _ earlier orderly))
+  | inl same ↦ absurd (contrary (read_is_opened k bytes earlier (newest (Read k) bytes earlier orderly))
       (ap (λ j. opened_in j earlier) (sym (eqb-true file k same)) ∙ none))
   | inr other ↦ rw other
-      (append-nil (read_of file earlier) ∙ read_of-none file earlier (before _ _ earlier orderly) none)
+      (append-nil (read_of file earlier) ∙ read_of-none file earlier (before (Read k) bytes earlier orderly) none)
 ]
 read_of-none file ((Ended k, bytes) ∷ earlier) orderly none =
-    append-nil (read_of file earlier) ∙ read_of-none file earlier (before _ _ earlier orderly) none
+    append-nil (read_of file earlier) ∙ read_of-none file earlier (before (Ended k) bytes earlier orderly) none
 read_of-none file ((Created k, bytes) ∷ earlier) orderly none =
-    append-nil (read_of file earlier) ∙ read_of-none file earlier (before _ _ earlier orderly) none
+    append-nil (read_of file earlier) ∙ read_of-none file earlier (before (Created k) bytes earlier orderly) none
 read_of-none file ((Wrote k, bytes) ∷ earlier) orderly none =
-    append-nil (read_of file earlier) ∙ read_of-none file earlier (before _ _ earlier orderly) none
+    append-nil (read_of file earlier) ∙ read_of-none file earlier (before (Wrote k) bytes earlier orderly) none
 
 -- nothing is read of a file after its end
 read_by-ended : (file : ℕ) (call : Call) (bytes : List ℕ) (earlier : List Event) → follows call bytes earlier ≡ true
