@@ -1,18 +1,17 @@
 -- What each call does to the record of calls and to the ledger that goes with it.
-use Rattle.std.proofs.Common.{◌≡◌, ℕ, ◌==◌, ◌&&◌, ◌||◌, Bool, true, false, List, [], ◌∷◌, refl, sym, ap, ◌∙◌, subst}
-use Rattle.std.proofs.Common.{inl, inr, IsTrue, Result, Ok, Err}
-use Rattle.std.specs.Prelude.{not, IfOk, OnErr}
-use Rattle.std.proofs.lemmas.Bool.{cases_Bool, or_cases, or_left, or_right, and_from, eqb-true, eqb-false, eq-eqb}
+use Rattle.std.proofs.Common.{◌≡◌, ℕ, ◌==◌, ◌&&◌, ◌||◌, Bool, true, false, List, [], ◌∷◌, refl, sym, ap, ◌∙◌}
+use Rattle.std.proofs.Common.{inl, inr, IsTrue}
+use Rattle.std.specs.Prelude.{not}
+use Rattle.std.proofs.lemmas.Bool.{cases_Bool, or_left, or_right, and_from, eqb-true, eqb-false, eq-eqb}
 use Rattle.std.proofs.lemmas.Bool.{not_from_false, false_from_ne_true}
 use Rattle.world_io.specs.declared.stream.Filled.{Filled}
 use Rattle.world_io.specs.declared.stream.Filled.TheVariants.{Got, End, Failed}
 use Rattle.world_io.specs.declared.stream.Put.{Put}
 use Rattle.world_io.specs.declared.stream.Put.TheVariants as put
-use Rattle.world_io.specs.declared.world.OpenFault.{OpenFault}
 use Rattle.world_io.specs.World.{Ledger, KeepsLedgerReading, KeepsLedgerWriting, GivesOpened, GivesCreated}
-use Rattle.world_io.specs.World.{NothingCreated, FilledNothing, is_writable}
+use Rattle.world_io.specs.World.{FilledNothing, is_writable}
 use Rattle.world_told.specs.declared.record.Call.TheVariants.{Opened, Read, Ended, Created, Wrote}
-use Rattle.world_told.specs.Events.{Event, WithCalls, after_open, after_fill, after_create, after_put}
+use Rattle.world_told.specs.Events.{Event, after_fill, after_put}
 use Rattle.world_told.specs.Ledgers.{told_ledger, WereMade}
 use Rattle.world_told.specs.Orderly.{opened_in, ended_in, created_in, name_created, are_orderly}
 
