@@ -10,6 +10,7 @@ use Rattle.packet_taps.specs.Words.{WatchNames, watch_names}
 use Rattle.world_io.specs.World.{Ledger, Start}
 use Rattle.world_told.specs.Events.{Event, WithCalls, shown_after}
 use Rattle.world_told.specs.Honest.{IsHonest}
+use Rattle.world_told.specs.Ledgers.{told_ledger}
 use Rattle.job_commands.specs.declared.status.Status.{Status}
 use Rattle.job_commands.specs.declared.status.Status.TheVariants.{BadWords, NoMemory, ReadFault, WriteFault}
 use Rattle.job_top.specs.Answers.{Answers, AnswersBytes}
@@ -30,7 +31,7 @@ not_begun faults refused status old new Other none (inr other) = inr other
 -- what such a run promises of the record
 pub runs_files : {W X : Type 0} (ledger : W → Ledger) (may : ℕ → Type 0) (faults : X → ℕ) (refused : Option X)
     (words : List (List ℕ)) (status : Status) (old new : WithCalls W) (printed : Ledger) → old.calls ≡ []
-    → Runs {W = WithCalls W} (λ p t. IsHonest p t.calls) (λ p t. shown_after p t.calls) (λ t. ledger t.world) (λ _. ⊥)
+    → Runs {W = WithCalls W} (λ p t. IsHonest p t.calls) (λ p t. shown_after p t.calls) (told_ledger ledger) (λ _. ⊥)
     may faults refused words status old new printed → RunsFiles may faults refused words status new.calls
 runs_files {W} ledger may faults refused words status old new printed none runs = record {
   bad_words = runs.bad_words;
@@ -45,7 +46,7 @@ runs_files {W} ledger may faults refused words status old new printed none runs 
 }
   where
     tapped : (pairs : ℕ) → IsNotBegun faults refused status old new
-        ⊎ Answers {W = WithCalls W} (λ p t. IsHonest p t.calls) (λ p t. shown_after p t.calls) (λ t. ledger t.world)
+        ⊎ Answers {W = WithCalls W} (λ p t. IsHonest p t.calls) (λ p t. shown_after p t.calls) (told_ledger ledger)
         (λ _. ⊥) may (behind_pairs pairs words) status old new
         → IsNotBegun faults refused status [] new.calls ⊎ ((p : Start) → IsHonest p new.calls
         → AnswersBytes ⊥ may (behind_pairs pairs words) status (shown_after p []) (shown_after p new.calls))

@@ -5,7 +5,7 @@ ghost use Rattle.job_commands.specs.Status.{IsRefusal};
 ghost use Rattle.job_commands.specs.Words.{asked, IfAsks, inputs_of};
 ghost use Rattle.command_line.specs.Performing.{Performs};
 ghost use Rattle.command_words.specs.Printing.{Prints, asked_text};
-ghost use Rattle.world_io.specs.World.{Start, WritingFailed};
+ghost use Rattle.world_io.specs.World.{Start, KeepsOrder, WritingFailed};
 
 use command_words::{Request, help, read_request, version};
 use job_commands::Status;
@@ -26,6 +26,7 @@ fn print<W: World>(world: &mut W, text: &str) -> Status
         ⊎ ((result ≡ Status.WriteFault) ⊎ (result ≡ Status.NoMemory)) }
     ensures given { (W.ledger world.new).given ≡ (W.ledger world.old).given }
     ensures opens_nothing { (W.ledger world.new).opened_names ≡ (W.ledger world.old).opened_names }
+    ensures orderly { (W.ledger world.new).orderly ≡ (W.ledger world.old).orderly }
     ensures write_fault { result ≡ Status.WriteFault
         → WritingFailed W.ledger W.healthy world.old world.new }
     ensures before { (p : Start) → W.honest p world.new → W.honest p world.old }
@@ -64,6 +65,7 @@ pub fn perform<W: World, C: Clock + Sync, G: Gate + Sync, R: AllocGlobal + Threa
         OpensAll (inputs_of command) (W.ledger world.old) (W.ledger world.new)) }
     ensures opens_nothing { asked words.now ≡ None
         → (W.ledger world.new).opened_names ≡ (W.ledger world.old).opened_names }
+    ensures orderly { KeepsOrder (W.ledger world.old) (W.ledger world.new) }
     ensures given { (W.ledger world.new).given ≤ (W.ledger world.old).given + 8 }
     ensures read_fault { result ≡ Status.ReadFault
         → Rose (W.ledger world.old).read_faults (W.ledger world.new).read_faults }

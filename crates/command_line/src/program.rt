@@ -1,4 +1,4 @@
-ghost use Rattle.std.specs.Prelude.{◌≡◌, ◌<◌, ◌≤◌, ◌⊎◌, ℕ, [], IfErr, IfOk};
+ghost use Rattle.std.specs.Prelude.{◌≡◌, ◌<◌, ◌≤◌, ◌⊎◌, ℕ, [], true, IfErr, IfOk};
 ghost use Rattle.std.specs.IoError.{error_kind};
 ghost use Rattle.std.specs.Process.{exit_status};
 ghost use Rattle.command_line.specs.Running.{AskedNothing, EndsWith, HasRefused, IsNotBegun};
@@ -9,6 +9,8 @@ ghost use Rattle.release_taps.specs.Split.{AsksForTaps};
 ghost use Rattle.world_real.specs.Real.{real_ledger};
 ghost use Rattle.world_told.specs.Events.{shown_after};
 ghost use Rattle.world_told.specs.Honest.{IsHonest};
+ghost use Rattle.world_told.specs.Ledgers.{told_ledger};
+ghost use Rattle.world_told.specs.Orderly.{are_orderly};
 ghost use Rattle.world_told.specs.Sent.{name_of, sent_to};
 
 use crate::{RealTap, SilentWorld, exit_of, run_words};
@@ -80,7 +82,9 @@ pub fn run_program<
 /// output is told to be of one file with another name (`one_file`), it does nothing. `names` tells that.
 ///
 /// The world of the files has a record of its calls. So what is promised by a beginning holds of the program: whatever
-/// bytes stood under the names when it began, if the system answered its reads as files with those bytes do.
+/// bytes stood under the names when it began, if the system answered its reads as files with those bytes do. There is
+/// such a beginning (`some_beginning`), since the calls are orderly: where no name was opened twice, or else where both
+/// readings gave the same bytes.
 ///
 /// It ends with `BadWords` where the arguments ask for nothing that it does, are no text, or name one file twice; with
 /// `ReadFault` and `WriteFault` where a world counted a fault; and with `NoMemory` where memory ran out.
@@ -115,7 +119,7 @@ pub fn run_arguments<
         ⊎ ((pairs : ℕ) → AsksForTaps (words_of all) pairs
         → IsNotBegun (λ w. (real_ledger w).write_faults) result.refused result.status
         [] result.world.calls ⊎ TapsMirror (λ p t. IsHonest p t.calls)
-        (λ p t. shown_after p t.calls) (λ t. real_ledger t.world)
+        (λ p t. shown_after p t.calls) (told_ledger real_ledger)
         (λ t. (t.faults ≡ 0) × (t.lacks ≡ 0)) (λ t. sent_to t.file t.world.calls)
         (λ t. t.faults) (λ t. t.lacks) (λ t. name_of t.file t.world.calls)
         (words_of all) pairs result.world result.taps.items)) }
@@ -124,6 +128,7 @@ pub fn run_arguments<
         ⊎ NoneClash (N.may names.now) (words_of all)) }
     ensures no_words { IfErr arguments (λ error.
         Refuses (error_kind error) result.status × (result.world.calls ≡ [])) }
+    ensures orderly { are_orderly result.world.calls ≡ true }
     ensures read_fault { result.status ≡ Status.ReadFault
         → 0 < (real_ledger result.world.world).read_faults }
     ensures write_fault { result.status ≡ Status.WriteFault

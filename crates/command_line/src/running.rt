@@ -11,7 +11,7 @@ ghost use Rattle.job_top.specs.Answers.{Answers};
 ghost use Rattle.packet_taps.specs.Lines.{HasPrinted};
 ghost use Rattle.release_taps.specs.Split.{AsksForTaps, BeginsWithTap, behind_pairs};
 ghost use Rattle.release_taps.specs.Seats.{AllFresh};
-ghost use Rattle.world_io.specs.World.{Start};
+ghost use Rattle.world_io.specs.World.{Start, KeepsOrder};
 ghost use Rattle.world_real.specs.Real.{real_ledger};
 ghost use Rattle.world_told.specs.Sent.{name_of, sent_to};
 
@@ -92,6 +92,7 @@ pub fn run_words<
     ensures no_command { ¬ BeginsWithTap words.now
         → asked words.now ≡ None → asked_text words.now ≡ None
         → begins_watch words.now ≡ false → result.status ≡ Status.BadWords }
+    ensures orderly { (W.ledger result.world).orderly ≡ (W.ledger world).orderly }
     ensures read_fault { result.status ≡ Status.ReadFault
         → 0 < (W.ledger result.world).read_faults }
     ensures write_fault { result.status ≡ Status.WriteFault
@@ -135,6 +136,7 @@ fn run_plain<
     ensures prints { begins_watch words.now ≡ true → PrintsLines W.honest W.shows W.healthy
         V.honest V.shows words.now result.status world result.world result.out }
     ensures prints_nothing { begins_watch words.now ≡ false → result.out ≡ out }
+    ensures orderly { KeepsOrder (W.ledger world) (W.ledger result.world) }
     ensures no_command { asked words.now ≡ None → asked_text words.now ≡ None
         → begins_watch words.now ≡ false → result.status ≡ Status.BadWords }
 {
@@ -185,6 +187,7 @@ fn run_tapped<
         W.healthy (C.may clock.now) (behind_pairs pairs words.now)
         result.status world result.world }
     ensures prints_nothing { result.out ≡ out }
+    ensures orderly { KeepsOrder (W.ledger world) (W.ledger result.world) }
     ensures mirrors { IsNotBegun (λ w. (real_ledger w).write_faults) result.refused
         result.status world result.world ⊎ TapsMirror W.honest W.shows W.ledger
         (λ t. (t.faults ≡ 0) × (t.lacks ≡ 0)) (λ t. sent_to t.file t.world.calls)

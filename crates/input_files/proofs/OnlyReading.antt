@@ -45,6 +45,7 @@ module _ {W : Type 0} (ledger : W → Ledger) (healthy : W → Type 0) where
       created = r.ledger.created;
       given = omega (arith, length-append names more, r.ledger.given);
       opened = OpensFirst-more names more (ledger a) (ledger b) r.ledger.opened;
+      orderly = r.ledger.orderly;
       read_faults = r.ledger.read_faults;
       write_faults = r.ledger.write_faults;
     };
@@ -60,6 +61,9 @@ module _ {W : Type 0} (ledger : W → Ledger) (healthy : W → Type 0) where
       created = s.ledger.created ∙ r.ledger.created;
       given = omega (arith, length-append names more, r.ledger.given, s.ledger.given);
       opened = OpensFirst-then names more (ledger a) (ledger b) (ledger c) all s.ledger.opened;
+      orderly = λ none.
+          s.ledger.orderly (λ k. ap (λ f. f k) r.ledger.created ∙ none k)
+          ∙ r.ledger.orderly none;
       read_faults = omega (arith, r.ledger.read_faults, s.ledger.read_faults);
       write_faults = s.ledger.write_faults ∙ r.ledger.write_faults;
     };

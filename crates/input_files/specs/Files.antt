@@ -1,6 +1,6 @@
 -- What reading the file of a name does to a world, and what it says of the bytes under the name.
 use Rattle.std.specs.Prelude.{◌≡◌, ℕ, ◌+◌, ◌≤◌, List, ◌++◌, length, Some, None, Result, Ok, Err}
-use Rattle.world_io.specs.World.{Shown, Ledger}
+use Rattle.world_io.specs.World.{Shown, Ledger, KeepsOrder}
 use Rattle.world_io.specs.declared.beginning.Front.{Front}
 use Rattle.world_io.specs.declared.beginning.FrontError.{FrontError}
 use Rattle.world_io.specs.declared.beginning.FrontError.TheVariants.{Failed, NoMemory}
@@ -33,12 +33,13 @@ pub record OpensFirst (names : List (List ℕ)) (old new : Ledger) : Type 0 wher
   pub names_are : names ≡ first ++ rest
   pub opened : OpensAll first old new
 
--- files of a first part of these names were opened, each at most once, none was created, and only the count of faults
--- of reading may have risen
+-- files of a first part of these names were opened, each at most once, none was created, the calls are as orderly as
+-- they were where none was created before either, and only the count of faults of reading may have risen
 pub record AfterInputs (names : List (List ℕ)) (old new : Ledger) : Type 0 where
   pub created : new.created ≡ old.created
   pub given : new.given ≤ old.given + length names
   pub opened : OpensFirst names old new
+  pub orderly : KeepsOrder old new
   pub read_faults : old.read_faults ≤ new.read_faults
   pub write_faults : new.write_faults ≡ old.write_faults
 

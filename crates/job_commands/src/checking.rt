@@ -3,7 +3,7 @@ ghost use Rattle.std.specs.Prelude.{length};
 ghost use Rattle.plain_text.specs.declared.limit.Limit.{Limit as LimitKind};
 ghost use Rattle.schedule_check.specs.declared.checking.Refutation as refuted;
 ghost use Rattle.world_io.specs.Stream.{Rose};
-ghost use Rattle.world_io.specs.World.{Start, WritingFailed};
+ghost use Rattle.world_io.specs.World.{Start, KeepsOrder, WritingFailed};
 ghost use Rattle.output_files.specs.Writes.{HasBegun, HasWritten};
 ghost use Rattle.schedule_commands.specs.Checking.{SaysCheck, found_writes};
 ghost use Rattle.schedule_commands.specs.Runs.{CanPlay};
@@ -76,6 +76,7 @@ pub fn check_released<W: World>(alloc: Global, world: &mut W, names: CheckWords<
         (W.ledger world.old) (W.ledger world.new) }
     ensures opens_all { result ≡ Status.Done → OpensAll (check_inputs (check_names_of names.entry))
         (W.ledger world.old) (W.ledger world.new) }
+    ensures orderly { KeepsOrder (W.ledger world.old) (W.ledger world.new) }
     ensures given { (W.ledger world.new).given ≤ (W.ledger world.old).given + 4 }
     ensures read_fault { result ≡ Status.ReadFault
         → Rose (W.ledger world.old).read_faults (W.ledger world.new).read_faults }

@@ -12,7 +12,7 @@ ghost use Rattle.job_commands.specs.Schedules.{schedule_of};
 ghost use Rattle.job_commands.specs.Status.{AtInputs, AtOutputs, IsRefusal, stage_of};
 ghost use Rattle.job_commands.specs.Status.{stage_of_limit};
 ghost use Rattle.job_commands.specs.Words.{files_of, play_names_of, schedule_inputs};
-ghost use Rattle.world_io.specs.World.{Start, WritingFailed};
+ghost use Rattle.world_io.specs.World.{Start, KeepsOrder, WritingFailed};
 
 use crate::status::play_outcome;
 use crate::{PlayWords, ScheduleInputs, Status, read_schedule_inputs};
@@ -71,6 +71,7 @@ pub fn play_capture<W: World>(alloc: Global, world: &mut W, names: PlayWords<'_>
         (W.ledger world.old) (W.ledger world.new) }
     ensures opens_all { result ≡ Status.Done → OpensAll (schedule_inputs (files_of names.entry.files))
         (W.ledger world.old) (W.ledger world.new) }
+    ensures orderly { KeepsOrder (W.ledger world.old) (W.ledger world.new) }
     ensures given { (W.ledger world.new).given ≤ (W.ledger world.old).given + 4 }
     ensures read_fault { result ≡ Status.ReadFault
         → Rose (W.ledger world.old).read_faults (W.ledger world.new).read_faults }

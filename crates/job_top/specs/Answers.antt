@@ -3,7 +3,7 @@ use Rattle.std.specs.Prelude.{◌≡◌, ◌+◌, ◌≤◌, ◌↔◌, ℕ, Lis
 use Rattle.plain_text.specs.declared.limit.Limit.{Limit}
 use Rattle.handover_world.specs.declared.unready.Unready.{Unready}
 use Rattle.world_io.specs.Stream.{Rose}
-use Rattle.world_io.specs.World.{Start, Shown, Ledger}
+use Rattle.world_io.specs.World.{Start, Shown, Ledger, KeepsOrder}
 use Rattle.input_files.specs.Files.{OpensAll, OpensFirst}
 use Rattle.run_writes.specs.Run.{KeepsShown}
 use Rattle.job_commands.specs.declared.status.Status.{Status}
@@ -45,5 +45,6 @@ pub record Answers {W : Type 0} (honest : Start → W → Type 0) (shows : Start
   pub opens_in_order : IfAsks words (λ command. OpensFirst (inputs_of command) (ledger old) (ledger new))
   pub opens_all : status ≡ of_status.Done
       → IfAsks words (λ command. OpensAll (inputs_of command) (ledger old) (ledger new))
+  pub orderly : KeepsOrder (ledger old) (ledger new)
   pub given : (ledger new).given ≤ (ledger old).given + 8
   pub before : (p : Start) → honest p new → honest p old

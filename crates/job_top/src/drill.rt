@@ -1,7 +1,7 @@
 ghost use Rattle.std.specs.Prelude.{◌≡◌, ◌+◌, ◌<◌, ◌≤◌, ◌-◌, ◌^◌, Err, OnOk, IsErrOf};
 ghost use Rattle.plain_text.specs.declared.limit.Limit.{Limit as LimitKind};
 ghost use Rattle.world_io.specs.Stream.{Rose};
-ghost use Rattle.world_io.specs.World.{Start, WritingFailed};
+ghost use Rattle.world_io.specs.World.{Start, KeepsOrder, WritingFailed};
 ghost use Rattle.input_files.specs.Files.{OpensAll, OpensFirst};
 ghost use Rattle.output_files.specs.Written.{WritesFiles};
 ghost use Rattle.run_writes.specs.Run.{KeepsShown};
@@ -106,6 +106,7 @@ pub(crate) fn drill<W: World>(alloc: Global, world: &mut W, names: DrillWords<'_
         (W.ledger world.old) (W.ledger world.new) }
     ensures opens_all { result ≡ Status.Done → OpensAll (drill_inputs
         (drill_names_of names.entry)) (W.ledger world.old) (W.ledger world.new) }
+    ensures orderly { KeepsOrder (W.ledger world.old) (W.ledger world.new) }
     ensures given { (W.ledger world.new).given ≤ (W.ledger world.old).given + 4 }
     ensures read_fault { result ≡ Status.ReadFault
         → Rose (W.ledger world.old).read_faults (W.ledger world.new).read_faults }

@@ -1,7 +1,7 @@
 ghost use Rattle.std.specs.Prelude.{◌≡◌, ◌+◌, ◌<◌, ◌≤◌, ◌-◌, ◌^◌, ◌∷◌, [], false};
 ghost use Rattle.plain_text.specs.declared.limit.Limit.{Limit as LimitKind};
 ghost use Rattle.world_io.specs.Stream.{Rose};
-ghost use Rattle.world_io.specs.World.{Start, WritingFailed};
+ghost use Rattle.world_io.specs.World.{Start, KeepsOrder, WritingFailed};
 ghost use Rattle.recovery_world.specs.World.{Setting, World as SystemWorld};
 ghost use Rattle.handover.specs.Images.{IsImage};
 ghost use Rattle.handover.specs.declared.image.Image.{Image};
@@ -91,6 +91,7 @@ fn resume_script<P: Program, W: World>(
         (W.ledger world.old) (W.ledger world.new) }
     ensures opens_all { result ≡ Status.Done → OpensAll (names.entry.script.now ∷ [])
         (W.ledger world.old) (W.ledger world.new) }
+    ensures orderly { KeepsOrder (W.ledger world.old) (W.ledger world.new) }
     ensures given { (W.ledger world.new).given ≤ (W.ledger world.old).given + 3 }
     ensures read_fault { result ≡ Status.ReadFault
         → Rose (W.ledger world.old).read_faults (W.ledger world.new).read_faults }
@@ -135,6 +136,7 @@ fn resume_box<P: Program, W: World>(
         (W.ledger world.old) (W.ledger world.new) }
     ensures opens_all { result ≡ Status.Done → OpensAll (names.entry.script.now ∷ [])
         (W.ledger world.old) (W.ledger world.new) }
+    ensures orderly { KeepsOrder (W.ledger world.old) (W.ledger world.new) }
     ensures given { (W.ledger world.new).given ≤ (W.ledger world.old).given + 3 }
     ensures read_fault { result ≡ Status.ReadFault
         → Rose (W.ledger world.old).read_faults (W.ledger world.new).read_faults }
@@ -179,6 +181,7 @@ fn resume_kinds<W: World>(
         (W.ledger world.old) (W.ledger world.new) }
     ensures opens_all { result ≡ Status.Done → OpensAll (names.entry.script.now ∷ [])
         (W.ledger world.old) (W.ledger world.new) }
+    ensures orderly { KeepsOrder (W.ledger world.old) (W.ledger world.new) }
     ensures given { (W.ledger world.new).given ≤ (W.ledger world.old).given + 3 }
     ensures read_fault { result ≡ Status.ReadFault
         → Rose (W.ledger world.old).read_faults (W.ledger world.new).read_faults }
@@ -228,6 +231,7 @@ pub(crate) fn resume<W: World>(alloc: Global, world: &mut W, names: ResumeWords<
         (W.ledger world.old) (W.ledger world.new) }
     ensures opens_all { result ≡ Status.Done → OpensAll (resume_inputs
         (resume_names_of names.entry)) (W.ledger world.old) (W.ledger world.new) }
+    ensures orderly { KeepsOrder (W.ledger world.old) (W.ledger world.new) }
     ensures given { (W.ledger world.new).given ≤ (W.ledger world.old).given + 6 }
     ensures read_fault { result ≡ Status.ReadFault
         → Rose (W.ledger world.old).read_faults (W.ledger world.new).read_faults }

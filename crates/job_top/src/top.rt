@@ -17,7 +17,7 @@ ghost use Rattle.job_commands.specs.Status.{AtInputs, AtOutputs, IsRefusal, stag
 ghost use Rattle.job_commands.specs.Status.{stage_of_limit};
 ghost use Rattle.job_commands.specs.Words.{asked, IfAsks, inputs_of, live_names};
 ghost use Rattle.job_commands.specs.Words.{names_of, run_inputs};
-ghost use Rattle.world_io.specs.World.{Start, WritingFailed};
+ghost use Rattle.world_io.specs.World.{Start, KeepsOrder, WritingFailed};
 
 use crate::chain::chain;
 use crate::drill::drill;
@@ -108,6 +108,7 @@ fn run<W: World>(alloc: Global, world: &mut W, names: RunWords<'_>) -> Status
         (W.ledger world.old) (W.ledger world.new) }
     ensures opens_all { result ≡ Status.Done → OpensAll (run_inputs (names_of names.entry))
         (W.ledger world.old) (W.ledger world.new) }
+    ensures orderly { KeepsOrder (W.ledger world.old) (W.ledger world.new) }
     ensures given { (W.ledger world.new).given ≤ (W.ledger world.old).given + 5 }
     ensures read_fault { result ≡ Status.ReadFault
         → Rose (W.ledger world.old).read_faults (W.ledger world.new).read_faults }
@@ -167,8 +168,9 @@ pub fn serial<W: World>(alloc: Global, words: &[Text], world: &mut W) -> Status
         → CompletesAs command result) }
     ensures never_fails { W.healthy world.old → ¬ (result ≡ Status.WriteFault) }
 
-    // The world's ledger: which faults rose, how many files it gave a number, and that the input
-    // files were opened in the order of the words: a first part of them, and all for Done.
+    // The world's ledger: which faults rose, how many files it gave a number, that the input files
+    // were opened in the order of the words, a first part of them, and all for Done, and that the
+    // calls stay orderly.
     ensures read_fault { result ≡ Status.ReadFault
         → Rose (W.ledger world.old).read_faults (W.ledger world.new).read_faults }
     ensures write_fault { result ≡ Status.WriteFault
@@ -177,6 +179,7 @@ pub fn serial<W: World>(alloc: Global, words: &[Text], world: &mut W) -> Status
         OpensFirst (inputs_of command) (W.ledger world.old) (W.ledger world.new)) }
     ensures opens_all { result ≡ Status.Done → IfAsks words.now (λ command.
         OpensAll (inputs_of command) (W.ledger world.old) (W.ledger world.new)) }
+    ensures orderly { KeepsOrder (W.ledger world.old) (W.ledger world.new) }
     ensures given { (W.ledger world.new).given ≤ (W.ledger world.old).given + 8 }
     ensures before { (p : Start) → W.honest p world.new → W.honest p world.old }
 {
@@ -315,8 +318,9 @@ pub fn ftmb<W: World, C: Clock + Sync, G: Gate + Sync, R: AllocGlobal + Threads 
         → CompletesAs command result) }
     ensures never_fails { W.healthy world.old → ¬ (result ≡ Status.WriteFault) }
 
-    // The world's ledger: which faults rose, how many files it gave a number, and that the input
-    // files were opened in the order of the words: a first part of them, and all for Done.
+    // The world's ledger: which faults rose, how many files it gave a number, that the input files
+    // were opened in the order of the words, a first part of them, and all for Done, and that the
+    // calls stay orderly.
     ensures read_fault { result ≡ Status.ReadFault
         → Rose (W.ledger world.old).read_faults (W.ledger world.new).read_faults }
     ensures write_fault { result ≡ Status.WriteFault
@@ -325,6 +329,7 @@ pub fn ftmb<W: World, C: Clock + Sync, G: Gate + Sync, R: AllocGlobal + Threads 
         OpensFirst (inputs_of command) (W.ledger world.old) (W.ledger world.new)) }
     ensures opens_all { result ≡ Status.Done → IfAsks words.now (λ command.
         OpensAll (inputs_of command) (W.ledger world.old) (W.ledger world.new)) }
+    ensures orderly { KeepsOrder (W.ledger world.old) (W.ledger world.new) }
     ensures given { (W.ledger world.new).given ≤ (W.ledger world.old).given + 8 }
     ensures before { (p : Start) → W.honest p world.new → W.honest p world.old }
 {

@@ -10,6 +10,7 @@ AfterWriting-trans m n a b c r s = record {
   given = omega (arith, r.given, s.given);
   opened = s.opened ∙ r.opened;
   opened_names = s.opened_names ∙ r.opened_names;
+  orderly = s.orderly ∙ r.orderly;
   read_faults = s.read_faults ∙ r.read_faults;
   write_faults = omega (arith, r.write_faults, s.write_faults);
 }
@@ -48,6 +49,7 @@ module _ {W : Type 0} (ledger : W → Ledger) (healthy : W → Type 0) where
       given = omega (arith, r.ledger.given);
       opened = r.ledger.opened;
       opened_names = r.ledger.opened_names;
+      orderly = r.ledger.orderly;
       read_faults = r.ledger.read_faults;
       write_faults = r.ledger.write_faults;
     };

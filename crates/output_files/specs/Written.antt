@@ -43,6 +43,7 @@ pub record AfterWriting (files : ℕ) (old new : Ledger) : Type 0 where
   pub given : new.given ≤ old.given + files
   pub opened : new.opened ≡ old.opened
   pub opened_names : new.opened_names ≡ old.opened_names
+  pub orderly : new.orderly ≡ old.orderly
   pub read_faults : new.read_faults ≡ old.read_faults
   pub write_faults : old.write_faults ≤ new.write_faults
 

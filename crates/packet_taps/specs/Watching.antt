@@ -8,7 +8,7 @@ use Rattle.pcap_io.specs.Capture.{Begins}
 use Rattle.pcapng_io.specs.declared.capture.AnyCaptured.TheVariants as captured
 use Rattle.pcapng_io.specs.Capture.{Section, Reaches, begins_ng}
 use Rattle.pcapng_io.specs.Captured.{SaysAny}
-use Rattle.world_io.specs.World.{Shown, Ledger}
+use Rattle.world_io.specs.World.{Shown, Ledger, KeepsOrder}
 use Rattle.packet_taps.specs.declared.command.Watched.{Watched}
 use Rattle.packet_taps.specs.declared.command.Watched.TheVariants.{Done, BadWords, ReadFault, NoMemory, BadInput}
 use Rattle.packet_taps.specs.declared.command.Watched.TheVariants.{TooLarge}
@@ -69,11 +69,12 @@ pub record KeepsFiles (old new : Shown) : Type 0 where
   pub sent : new.sent ≡ old.sent
   pub name_of : new.name_of ≡ old.name_of
 
--- At most one file was opened and read, none was created, and only the count of faults of reading may have risen. What
--- was healthy is healthy.
+-- At most one file was opened and read, none was created, the calls are as orderly as they were where none was created
+-- before either, and only the count of faults of reading may have risen. What was healthy is healthy.
 pub record ReadsOneName {W : Type 0} (ledger_of : W → Ledger) (healthy_of : W → Type 0) (old new : W) : Type 0 where
   pub created : (ledger_of new).created ≡ (ledger_of old).created
   pub given : (ledger_of new).given ≤ (ledger_of old).given + 1
+  pub orderly : KeepsOrder (ledger_of old) (ledger_of new)
   pub read_faults : (ledger_of old).read_faults ≤ (ledger_of new).read_faults
   pub write_faults : (ledger_of new).write_faults ≡ (ledger_of old).write_faults
   pub stays_healthy : healthy_of old → healthy_of new

@@ -1,10 +1,11 @@
 -- That what the calls of a world in memory do is what a world promises.
-use Rattle.std.proofs.Common.{◌≡◌, ◌≢◌, ℕ, zero, suc, ◌+◌, ◌-◌, ◌^◌, ◌≤◌, List, [], ◌++◌, Some, Ok, Err, Result, true}
-use Rattle.std.proofs.Common.{false, cond, eqb, take, arith, ap, ◌∙◌, sym, refl, subst}
+use Rattle.std.proofs.Common.{◌≡◌, ◌≢◌, ℕ, zero, suc, ◌+◌, ◌-◌, ◌^◌, ◌≤◌, List, [], ◌++◌, Option, Some, Ok, Err, Result}
+use Rattle.std.proofs.Common.{true, false, cond, eqb, length, take, arith, ap, ◌∙◌, sym, refl, subst}
 use Rattle.std.specs.Prelude.{◌==◌, if◌then◌else◌}
-use Rattle.std.proofs.lemmas.List.{take_all}
+use Rattle.std.proofs.lemmas.List.{take_all, length-set}
 use Rattle.std.proofs.lemmas.Bool.Decides.{nat_tests}
 use Rattle.world_io.specs.declared.memory_file.MemoryFile.{MemoryFile}
+use Rattle.world_io.specs.declared.memory_file.MemoryFile.TheVariants.{Created}
 use Rattle.world_io.specs.declared.stream.Filled.{Filled}
 use Rattle.world_io.specs.declared.stream.Filled.TheVariants.{Got, End, Failed}
 use Rattle.world_io.specs.declared.stream.Put.{Put}
@@ -12,11 +13,13 @@ use Rattle.world_io.specs.declared.stream.Put.TheVariants as put
 use Rattle.world_io.specs.declared.world.OpenFault.{OpenFault}
 use Rattle.world_io.specs.declared.world.OpenFault.TheVariants as fault
 use Rattle.world_io.specs.Stream.{filled_bytes, EndsAtEnd, put_bytes}
-use Rattle.world_io.specs.Files.{file_of, left_in, sent_to, name_in, TakesFromFile}
+use Rattle.world_io.specs.Files.{file_of, is_opened, is_ended, is_created, left_in, sent_to, name_in}
+use Rattle.world_io.specs.Files.{TakesFromFile}
 use Rattle.world_io.specs.Calls.{CallCount, next_fails, counted, after_call, NoneIsToFail}
-use Rattle.world_io.specs.World.{Shown, WritesFile}
-use Rattle.world_io.specs.OneFile.{WritesFile-nothing}
-use Rattle.world_io.specs.Memory.{Memory, IsHealthy, Opens, Fills, Puts, after_read, after_read_fault, shown_of}
+use Rattle.world_io.specs.World.{Shown, WritesFile, KeepsLedgerWriting}
+use Rattle.world_io.specs.OneFile.{WritesFile-nothing, KeepsLedgerWriting-same}
+use Rattle.world_io.specs.Memory.{Memory, IsHealthy, Opens, Fills, Puts, after_read, after_read_fault}
+use Rattle.world_io.specs.Memory.{after_write_fault, shown_of, ledger_of}
 use Rattle.world_io.proofs.FilesLemmas.{TakesFromFile-nothing, seen_alike-set, file_of-set_same, file_of-set_other}
 
 pub Fills-passed : (old : Memory) (file : ℕ) (r : Filled) (piece : List ℕ) (files : List MemoryFile)
@@ -98,3 +101,53 @@ module _ (old new : Memory) where
   Puts-told (suc file) put.Failed piece h = puts_nothing (suc file) (ap shown_of h.1)
   Puts-told zero put.NoMemory piece h = puts_nothing zero (ap shown_of h.1)
   Puts-told (suc file) put.NoMemory piece h = puts_nothing (suc file) (ap shown_of h.1)
+
+  faulted : new ≡ after_write_fault old → KeepsLedgerWriting (ledger_of old) (ledger_of new)
+  faulted e =
+      let P : Memory → Type 0 = λ m. KeepsLedgerWriting (ledger_of old) (ledger_of m) in
+      subst P (sym e) (record {
+        opened = refl;
+        ended = λ _ was. was;
+        created = refl;
+        given = refl;
+        opened_names = refl;
+        orderly = refl;
+        read_faults = refl;
+        write_faults = le-counted old.writing.faults;
+      })
+
+  pub Puts-ledger : (file : ℕ) (r : Put) (piece : List ℕ) → Puts old file r piece new
+      → KeepsLedgerWriting (ledger_of old) (ledger_of new)
+  Puts-ledger zero (put.Took n) piece h =
+      let P : Memory → Type 0 = λ m. KeepsLedgerWriting (ledger_of old) (ledger_of m) in
+      subst P (sym h.2) (KeepsLedgerWriting-same (ledger_of old))
+  Puts-ledger (suc file) (put.Took n) piece h =
+      let number = suc file in
+      let sends = h.2.sends in
+      let after = h.2.after in
+      let opened = ap (λ fs k. is_opened (file_of fs k)) sends.after
+      ∙ seen_alike-set is_opened old.files number _ _ sends.had refl in
+      let ended = ap (λ fs k. is_ended (file_of fs k)) sends.after
+      ∙ seen_alike-set is_ended old.files number _ _ sends.had refl in
+      let created = ap (λ fs k. is_created (file_of fs k)) sends.after
+      ∙ seen_alike-set is_created old.files number _ _ sends.had refl in
+      record {
+        opened = opened;
+        ended = λ k was. ap (λ f. f k) ended ∙ was;
+        created = created;
+        given = ap length sends.after ∙ length-set old.files (number - 1) _;
+        opened_names = ap (λ (m : Memory). m.opened_names) after;
+        orderly = refl;
+        read_faults = ap (λ (m : Memory). m.reading.faults) after;
+        write_faults =
+            let same : new.writing.faults ≡ old.writing.faults = ap (λ (m : Memory). m.writing.faults) after in
+            omega (arith, same);
+      }
+  Puts-ledger zero put.Failed piece h = faulted h.1
+  Puts-ledger (suc file) put.Failed piece h = faulted h.1
+  Puts-ledger zero put.NoMemory piece h =
+      let P : Memory → Type 0 = λ m. KeepsLedgerWriting (ledger_of old) (ledger_of m) in
+      subst P (sym h.1) (KeepsLedgerWriting-same (ledger_of old))
+  Puts-ledger (suc file) put.NoMemory piece h =
+      let P : Memory → Type 0 = λ m. KeepsLedgerWriting (ledger_of old) (ledger_of m) in
+      subst P (sym h.1) (KeepsLedgerWriting-same (ledger_of old))

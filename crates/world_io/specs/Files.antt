@@ -1,6 +1,6 @@
 -- The files of a world in memory, each under its number: the place where it stands, counted from 1.
-use Rattle.std.specs.Prelude.{◌≡◌, ℕ, zero, suc, ◌-◌, Bool, true, false, List, [], ◌++◌, Option, Some, None, slice_get}
-use Rattle.std.specs.Prelude.{slice_set, take}
+use Rattle.std.specs.Prelude.{◌≡◌, ℕ, zero, suc, ◌-◌, Bool, true, false, List, [], ◌∷◌, ◌++◌, Option, Some, None}
+use Rattle.std.specs.Prelude.{slice_get, slice_set, take}
 use Rattle.world_io.specs.declared.memory_file.CreatedFile.{CreatedFile}
 use Rattle.world_io.specs.declared.memory_file.MemoryFile.{MemoryFile}
 use Rattle.world_io.specs.declared.memory_file.MemoryFile.TheVariants.{Opened, Created}
@@ -14,6 +14,13 @@ abbrev pub is_opened : Option MemoryFile → Bool
 is_opened None = false
 is_opened (Some (Opened left)) = true
 is_opened (Some (Created f)) = false
+
+-- it was opened, and nothing is left of it
+abbrev pub is_ended : Option MemoryFile → Bool
+is_ended None = false
+is_ended (Some (Opened [])) = true
+is_ended (Some (Opened (next ∷ left))) = false
+is_ended (Some (Created f)) = false
 
 abbrev pub is_created : Option MemoryFile → Bool
 is_created None = false

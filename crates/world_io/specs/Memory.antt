@@ -12,7 +12,8 @@ use Rattle.world_io.specs.declared.world.OpenFault.{OpenFault}
 use Rattle.world_io.specs.declared.world.OpenFault.TheVariants.{Failed, NoMemory}
 use Rattle.world_io.specs.Stream.{filled_bytes, EndsAtEnd}
 use Rattle.world_io.specs.Names.{bytes_under, SetsName, AppendsToName}
-use Rattle.world_io.specs.Files.{file_of, is_opened, is_created, left_in, sent_to, name_in, TakesFromFile, SendsToFile}
+use Rattle.world_io.specs.Files.{file_of, is_opened, is_ended, is_created, left_in, sent_to, name_in}
+use Rattle.world_io.specs.Files.{TakesFromFile, SendsToFile}
 use Rattle.world_io.specs.Calls.{CallCount, next_fails, after_call, after_fault, NoneIsToFail}
 use Rattle.world_io.specs.World.{Shown, Ledger}
 
@@ -47,9 +48,11 @@ shown_of m = record {
 abbrev pub ledger_of : Memory → Ledger
 ledger_of m = record {
   opened = λ k. is_opened (file_of m.files k);
+  ended = λ k. is_ended (file_of m.files k);
   created = λ k. is_created (file_of m.files k);
   given = length m.files;
   opened_names = m.opened_names;
+  orderly = true;
   read_faults = m.reading.faults;
   write_faults = m.writing.faults;
 }

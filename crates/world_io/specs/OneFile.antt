@@ -19,9 +19,11 @@ pub KeepsLedgerReading-same : (a : Ledger) → KeepsLedgerReading a a
 KeepsLedgerReading-same a =
     record {
       opened = refl;
+      ended = λ _ was. was;
       created = refl;
       given = refl;
       opened_names = refl;
+      orderly = refl;
       read_faults = omega arith;
       write_faults = refl;
     }
@@ -30,9 +32,11 @@ pub KeepsLedgerReading-more : (a b c : Ledger) → KeepsLedgerReading a b → Ke
     → KeepsLedgerReading a c
 KeepsLedgerReading-more a b c r s = record {
   opened = s.opened ∙ r.opened;
+  ended = λ k was. s.ended k (r.ended k was);
   created = s.created ∙ r.created;
   given = s.given ∙ r.given;
   opened_names = s.opened_names ∙ r.opened_names;
+  orderly = s.orderly ∙ r.orderly;
   read_faults = omega (arith, r.read_faults, s.read_faults);
   write_faults = s.write_faults ∙ r.write_faults;
 }
@@ -41,9 +45,11 @@ pub KeepsLedgerWriting-same : (a : Ledger) → KeepsLedgerWriting a a
 KeepsLedgerWriting-same a =
     record {
       opened = refl;
+      ended = λ _ was. was;
       created = refl;
       given = refl;
       opened_names = refl;
+      orderly = refl;
       read_faults = refl;
       write_faults = omega arith;
     }
@@ -52,9 +58,11 @@ pub KeepsLedgerWriting-more : (a b c : Ledger) → KeepsLedgerWriting a b → Ke
     → KeepsLedgerWriting a c
 KeepsLedgerWriting-more a b c r s = record {
   opened = s.opened ∙ r.opened;
+  ended = λ k was. s.ended k (r.ended k was);
   created = s.created ∙ r.created;
   given = s.given ∙ r.given;
   opened_names = s.opened_names ∙ r.opened_names;
+  orderly = s.orderly ∙ r.orderly;
   read_faults = s.read_faults ∙ r.read_faults;
   write_faults = omega (arith, r.write_faults, s.write_faults);
 }

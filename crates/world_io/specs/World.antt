@@ -18,13 +18,16 @@ pub record Shown : Type 0 where
   pub sent : ℕ → List ℕ
   pub name_of : ℕ → List ℕ
 
--- what a world shows whatever the beginning: the numbers that it gave, how many, the names of the files that were
--- opened, in order, and its faults
+-- what a world shows whatever the beginning: the numbers that it gave, the files whose end was found, how many numbers
+-- it gave, the names of the files that were opened, in order, whether its calls came in an order for which there can be
+-- a beginning (a world with no record of them says that they did), and its faults
 pub record Ledger : Type 0 where
   pub opened : ℕ → Bool
+  pub ended : ℕ → Bool
   pub created : ℕ → Bool
   pub given : ℕ
   pub opened_names : List (List ℕ)
+  pub orderly : Bool
   pub read_faults : ℕ
   pub write_faults : ℕ
 
@@ -32,21 +35,36 @@ pub record Ledger : Type 0 where
 abbrev pub is_writable : Ledger → ℕ → Bool
 is_writable ledger file = nat_eq file 0 || ledger.created file
 
--- no number was given, and only the count of faults of reading may have risen
+-- an end that was found is remembered
+abbrev pub KeepsEnds : Ledger → Ledger → Type 0
+KeepsEnds old new = (k : ℕ) → old.ended k ≡ true → new.ended k ≡ true
+
+abbrev pub NothingCreated : Ledger → Type 0
+NothingCreated ledger = (k : ℕ) → ledger.created k ≡ false
+
+-- where nothing was created before, the calls are as orderly as they were
+abbrev pub KeepsOrder : Ledger → Ledger → Type 0
+KeepsOrder old new = NothingCreated old → new.orderly ≡ old.orderly
+
+-- no number was given, ends may have been found, and only the count of faults of reading may have risen
 pub record KeepsLedgerReading (old new : Ledger) : Type 0 where
   pub opened : new.opened ≡ old.opened
+  pub ended : KeepsEnds old new
   pub created : new.created ≡ old.created
   pub given : new.given ≡ old.given
   pub opened_names : new.opened_names ≡ old.opened_names
+  pub orderly : new.orderly ≡ old.orderly
   pub read_faults : old.read_faults ≤ new.read_faults
   pub write_faults : new.write_faults ≡ old.write_faults
 
 -- no number was given, and only the count of faults of writing may have risen
 pub record KeepsLedgerWriting (old new : Ledger) : Type 0 where
   pub opened : new.opened ≡ old.opened
+  pub ended : KeepsEnds old new
   pub created : new.created ≡ old.created
   pub given : new.given ≡ old.given
   pub opened_names : new.opened_names ≡ old.opened_names
+  pub orderly : new.orderly ≡ old.orderly
   pub read_faults : new.read_faults ≡ old.read_faults
   pub write_faults : old.write_faults ≤ new.write_faults
 
@@ -83,9 +101,11 @@ pub record GivesOpened (name : List ℕ) (file : ℕ) (old new : Ledger) : Type 
   pub fresh : IsNew file old
   pub opened : new.opened file ≡ true
   pub others : (k : ℕ) → ¬ (k ≡ file) → new.opened k ≡ old.opened k
+  pub ended : KeepsEnds old new
   pub created : new.created ≡ old.created
   pub given : new.given ≡ old.given + 1
   pub opened_names : new.opened_names ≡ old.opened_names ++ name ∷ []
+  pub orderly : KeepsOrder old new
   pub read_faults : old.read_faults ≤ new.read_faults
   pub write_faults : new.write_faults ≡ old.write_faults
 
@@ -95,8 +115,10 @@ pub record GivesCreated (file : ℕ) (old new : Ledger) : Type 0 where
   pub created : new.created file ≡ true
   pub others : (k : ℕ) → ¬ (k ≡ file) → new.created k ≡ old.created k
   pub opened : new.opened ≡ old.opened
+  pub ended : KeepsEnds old new
   pub given : new.given ≡ old.given + 1
   pub opened_names : new.opened_names ≡ old.opened_names
+  pub orderly : new.orderly ≡ old.orderly
   pub read_faults : new.read_faults ≡ old.read_faults
   pub write_faults : old.write_faults ≤ new.write_faults
 

@@ -1,7 +1,8 @@
 ghost use Rattle.std.specs.Prelude.{◌≡◌, ◌<◌, ◌-◌, ◌^◌, length, IsTrue, ⊤, IfOk, OnOk, OnErr};
 ghost use Rattle.std.specs.Option.{option_copied};
 ghost use Rattle.world_io.specs.Stream.{FillCount, PutCount, put_bytes};
-ghost use Rattle.world_io.specs.World.{Start, OpensFile, WritesFile, is_writable};
+ghost use Rattle.world_io.specs.World.{Start, KeepsLedgerWriting, OpensFile, WritesFile};
+ghost use Rattle.world_io.specs.World.{is_writable};
 ghost use Rattle.world_io.specs.Names.{bytes_under, SetsName};
 ghost use Rattle.world_io.specs.Calls.{with_failing};
 ghost use Rattle.world_io.specs.Files.{file_of, is_opened, is_created};
@@ -244,6 +245,7 @@ impl World for MemoryWorld {
         ensures count { PutCount result (length piece.now) }
         ensures shows { (p : Start) → ⊤
             → WritesFile file (put_bytes result piece.now) (shown_of self.old) (shown_of self.new) }
+        ensures ledger { KeepsLedgerWriting (ledger_of self.old) (ledger_of self.new) }
         ensures puts { Puts self.old file result piece.now self.new }
     {
         self.append(file, piece)

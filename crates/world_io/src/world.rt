@@ -1,5 +1,5 @@
 ghost use Rattle.std.specs.Prelude.{◌≡◌, ◌<◌, ◌-◌, ◌^◌, [], IsTrue, length, IfOk, OnErr};
-ghost use Rattle.std.specs.Prelude.{IsErrOf, None};
+ghost use Rattle.std.specs.Prelude.{IsErrOf, None, true};
 ghost use Rattle.world_io.specs.Stream.{Rose, FillCount, filled_bytes, PutCount};
 ghost use Rattle.world_io.specs.Stream.{put_bytes};
 ghost use Rattle.world_io.specs.World.{Start, Shown, Ledger, KeepsLedgerReading};
@@ -33,9 +33,10 @@ impl From<NoMemory> for OpenFault {
 
 /// The outside: named files, and the report, which is file 0 and is always there.
 ///
-/// It shows which numbers it gave to files that it opened and created, the names of those that it
-/// opened, in order, and how often reading and writing failed. A count that stands at 2^64 - 1
-/// stays there.
+/// It shows which numbers it gave to files that it opened and created, of which files it found the
+/// end, the names of those that it opened, in order, whether its calls came in an order for which
+/// a beginning can be found, and how often reading and writing failed. A count that stands at
+/// 2^64 - 1 stays there.
 ///
 /// Its bytes are known by a beginning, where its answers are honest: where each is that of files
 /// which held these bytes at first. So something is known of the real files, whose bytes no
@@ -73,7 +74,8 @@ pub trait World {
             → IsErrOf result OpenFault.Failed → (shows p self.old).names name.now ≡ None }
         ensures before { (p : Start) → honest p self.new → honest p self.old };
 
-    /// Takes the next bytes of an opened file into the piece, from its first byte on.
+    /// Takes the next bytes of an opened file into the piece, from its first byte on. Once it found
+    /// the end of the file, it gives nothing more of it.
     fn fill(&mut self, file: u32, piece: &mut [u8]) -> Filled
         requires { IsTrue ((ledger self.old).opened file) }
         ensures count { FillCount result (length piece.old) }
@@ -85,6 +87,8 @@ pub trait World {
             → FilledNothing result → shows p self.new ≡ shows p self.old }
         ensures ends { (p : Start) → honest p self.new
             → result ≡ Filled.End → (shows p self.old).left file ≡ [] }
+        ensures end_found { result ≡ Filled.End → (ledger self.new).ended file ≡ true }
+        ensures nothing_more { (ledger self.old).ended file ≡ true → FilledNothing result }
         ensures before { (p : Start) → honest p self.new → honest p self.old };
 
     /// Makes the name's bytes empty, and starts writing them. The file has a number of its own,

@@ -1,7 +1,7 @@
 -- What the real world shows: the numbers that it gave, the names that it opened and its counts of faults, and no bytes.
 use Rattle.std.specs.Prelude.{◌≡◌, ℕ, zero, suc, Bool, true, false, List, [], length, Option, Some, None, slice_get}
 use Rattle.world_real.specs.declared.real_file.RealFile.{RealFile}
-use Rattle.world_real.specs.declared.real_file.RealFile.TheVariants.{Reading, Writing}
+use Rattle.world_real.specs.declared.real_file.RealFile.TheVariants.{Reading, Ended, Writing}
 use Rattle.world_io.specs.World.{Shown, Ledger}
 
 -- the file that has this number, if it was given
@@ -9,24 +9,34 @@ abbrev pub file_at : {F : Type 0} → List (RealFile F) → ℕ → Option (Real
 file_at files zero = None
 file_at files (suc place) = slice_get files place
 
-abbrev pub is_reading : {F : Type 0} → Option (RealFile F) → Bool
-is_reading None = false
-is_reading (Some (Reading f)) = true
-is_reading (Some (Writing f)) = false
+abbrev pub is_opened : {F : Type 0} → Option (RealFile F) → Bool
+is_opened None = false
+is_opened (Some (Reading f)) = true
+is_opened (Some Ended) = true
+is_opened (Some (Writing f)) = false
+
+abbrev pub is_ended : {F : Type 0} → Option (RealFile F) → Bool
+is_ended None = false
+is_ended (Some (Reading f)) = false
+is_ended (Some Ended) = true
+is_ended (Some (Writing f)) = false
 
 abbrev pub is_writing : {F : Type 0} → Option (RealFile F) → Bool
 is_writing None = false
 is_writing (Some (Reading f)) = false
+is_writing (Some Ended) = false
 is_writing (Some (Writing f)) = true
 
 abbrev pub left_in : {F : Type 0} → (F → Option (List ℕ)) → Option (RealFile F) → Option (List ℕ)
 left_in remaining None = None
 left_in remaining (Some (Reading f)) = remaining f
+left_in remaining (Some Ended) = Some []
 left_in remaining (Some (Writing f)) = None
 
 abbrev pub held_in : {F : Type 0} → (F → Option (List ℕ)) → Option (RealFile F) → Option (List ℕ)
 held_in contents None = None
 held_in contents (Some (Reading f)) = None
+held_in contents (Some Ended) = None
 held_in contents (Some (Writing f)) = contents f
 
 -- the files in the order of their numbers, which count from 1, the names of the opened ones in the order of opening,
@@ -39,10 +49,12 @@ pub record Real (F : Type 0) : Type 0 where
 
 abbrev pub real_ledger : {F : Type 0} → Real F → Ledger
 real_ledger w = record {
-  opened = λ k. is_reading (file_at w.files k);
+  opened = λ k. is_opened (file_at w.files k);
+  ended = λ k. is_ended (file_at w.files k);
   created = λ k. is_writing (file_at w.files k);
   given = length w.files;
   opened_names = w.opened_names;
+  orderly = true;
   read_faults = w.read_faults;
   write_faults = w.write_faults;
 }

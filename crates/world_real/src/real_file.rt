@@ -2,5 +2,7 @@
 #[derive(Drop)]
 pub enum RealFile<F> {
     Reading(F),
+    /// One that was read to its end, and closed.
+    Ended,
     Writing(F),
 }

@@ -1,10 +1,10 @@
 ghost use Rattle.std.specs.Prelude.{◌≡◌, ◌≢◌, ◌<◌, ◌-◌, ◌^◌, ℕ, length, IsTrue, IfOk, OnErr};
-ghost use Rattle.std.specs.Prelude.{IsErrOf};
+ghost use Rattle.std.specs.Prelude.{IsErrOf, true};
 ghost use Rattle.std.specs.Io.KnownBytes.{Appends, Consumes, IsAtEnd};
 ghost use Rattle.world_io.specs.Calls.{counted};
 ghost use Rattle.world_io.specs.Stream.{Rose, FillCount, filled_bytes, PutCount, put_bytes};
 ghost use Rattle.world_io.specs.World.{KeepsLedgerReading, KeepsLedgerWriting, GivesOpened};
-ghost use Rattle.world_io.specs.World.{GivesCreated, is_writable};
+ghost use Rattle.world_io.specs.World.{GivesCreated, FilledNothing, is_writable};
 ghost use Rattle.world_real.specs.Real.{IsUnused, file_at, held_at, left_at, real_ledger};
 
 use crate::notice::Notice;
@@ -22,6 +22,9 @@ use world_io::{Filled, OpenFault, Put, World};
 /// It shows no bytes, by no beginning: contracts see the numbers that it gave, which count from 1
 /// and are given once, the names of the opened files, in order, and how often reading and writing
 /// failed. It never says that it is healthy: any call may fail.
+///
+/// A file that was read to its end is closed, and is read no more: it may have grown since, and a
+/// terminal gives more after an end.
 #[derive(Drop)]
 pub struct RealWorld<R: Files + Print + Drop, N: Notice + Drop> {
     alloc: Global,
@@ -135,6 +138,8 @@ impl<R: Files + Print + Drop, N: Notice + Drop> World for RealWorld<R, N> {
         ensures count { FillCount result (length piece.old) }
         ensures ledger { KeepsLedgerReading (real_ledger self.old) (real_ledger self.new) }
         ensures cause { result ≡ Filled.Failed → Rose self.old.read_faults self.new.read_faults }
+        ensures end_found { result ≡ Filled.End → (real_ledger self.new).ended file ≡ true }
+        ensures nothing_more { (real_ledger self.old).ended file ≡ true → FilledNothing result }
 
         // Beyond any world: what it takes of a file that tells its bytes.
         ensures takes { Consumes (left_at R.File.remaining self.old file)
@@ -142,11 +147,18 @@ impl<R: Files + Print + Drop, N: Notice + Drop> World for RealWorld<R, N> {
         ensures others { (k : ℕ) → k ≢ file → file_at self.new.files k ≡ file_at self.old.files k }
         ensures at_end { result ≡ Filled.End → IsAtEnd (left_at R.File.remaining self.old file) }
     {
-        let RealFile::Reading(from) = &mut self.files[file as usize - 1] else {
-            unreachable!()
+        let place = file as usize - 1;
+        let from = match &mut self.files[place] {
+            RealFile::Reading(from) => from,
+            RealFile::Ended => return Filled::End,
+            RealFile::Writing(_) => unreachable!(),
         };
         match read_some(from, piece) {
             Filled::Failed => self.read_fault(),
+            Filled::End => {
+                self.files[place] = RealFile::Ended;
+                Filled::End
+            }
             filled => filled,
         }
     }

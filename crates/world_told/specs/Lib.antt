@@ -1,4 +1,5 @@
 pub mod Events
 pub mod Honest
+pub mod Ledgers
 pub mod Orderly
 pub mod Sent

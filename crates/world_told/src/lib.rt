@@ -15,7 +15,7 @@ mod tapping;
 mod told;
 mod told_tap;
 
-pub use laws::some_beginning;
+pub use laws::{opened_once_agree, some_beginning};
 pub use record::Call;
 pub use told::Told;
 pub use told_tap::{Refused, ToldTap};

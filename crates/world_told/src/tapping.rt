@@ -2,6 +2,7 @@ ghost use Rattle.std.specs.Prelude.{◌≡◌, ◌∷◌, ◌++◌, ◌-◌, ◌
 ghost use Rattle.release_taps.specs.Seats.{IsFresh};
 ghost use Rattle.world_io.specs.Stream.{Rose};
 ghost use Rattle.world_io.specs.World.{is_writable};
+ghost use Rattle.world_told.specs.Ledgers.{told_ledger};
 ghost use Rattle.world_told.specs.Sent.{name_of, sent_to};
 
 use crate::{Call, Refused, Told, ToldTap};
@@ -42,8 +43,8 @@ impl<W: World + Drop> ToldTap<W> {
 
 /// Appends the bytes to a file of this number, as far as the world takes them.
 fn write_piece<W: World>(world: &mut Told<W>, file: u32, piece: &[u8]) -> Shown
-    requires { IsTrue (is_writable (W.ledger world.old.world) file) }
-    ensures writable { IsTrue (is_writable (W.ledger world.new.world) file) }
+    requires { IsTrue (is_writable (told_ledger W.ledger world.old) file) }
+    ensures writable { IsTrue (is_writable (told_ledger W.ledger world.new) file) }
     ensures name { name_of file world.new.calls ≡ name_of file world.old.calls }
     ensures took { result ≡ Shown.Took
         → sent_to file world.new.calls ≡ sent_to file world.old.calls ++ piece.now }

@@ -1,9 +1,11 @@
-ghost use Rattle.std.specs.Prelude.{◌≡◌, ◌<◌, ◌-◌, ◌^◌, [], IsTrue, length, IfOk, OnErr, IsErrOf};
+ghost use Rattle.std.specs.Prelude.{◌≡◌, ◌<◌, ◌-◌, ◌^◌, [], true, IsTrue, length, IfOk, OnErr};
+ghost use Rattle.std.specs.Prelude.{IsErrOf};
 ghost use Rattle.world_io.specs.Stream.{Rose, FillCount, filled_bytes, PutCount, put_bytes};
 ghost use Rattle.world_io.specs.World.{Start, OpensFile, ReadsFile, CreatesFile, WritesFile};
 ghost use Rattle.world_io.specs.World.{CreatesNothing, GivesOpened, GivesCreated, is_writable};
-ghost use Rattle.world_io.specs.World.{KeepsLedgerReading, KeepsLedgerWriting};
+ghost use Rattle.world_io.specs.World.{KeepsLedgerReading, KeepsLedgerWriting, FilledNothing};
 ghost use Rattle.world_told.specs.Events.{after_open, after_fill, after_create, after_put};
+ghost use Rattle.world_told.specs.Ledgers.{told_ledger};
 
 use crate::record::{Call, Record};
 use plain_text::Text;
@@ -13,7 +15,8 @@ use world_io::{Filled, OpenFault, Put, World};
 /// Any world, with a record of its calls and their answers. Contracts see both.
 ///
 /// It passes each call on, and shows its bytes by each beginning of which the answers so far are
-/// honest.
+/// honest. Its ledger has the files of the record: not those that the world below opened or created
+/// before.
 #[derive(Drop)]
 pub struct Told<W: World> {
     inner: W,
@@ -22,10 +25,13 @@ pub struct Told<W: World> {
 
 impl<W: World> Model for Told<W> {
     ghost use Rattle.world_told.specs.Events.{WithCalls};
+    ghost use Rattle.world_told.specs.Ledgers.{WereMade};
 
     ghost Value = { WithCalls W };
 
     ghost view = { λ t. record { world = t.inner; calls = t.calls.events } };
+
+    ghost invariant = { λ t. WereMade t.calls.events (W.ledger t.inner) };
 }
 
 impl<W: World> Told<W> {
@@ -50,12 +56,13 @@ impl<W: World> Told<W> {
 impl<W: World> World for Told<W> {
     ghost use Rattle.world_told.specs.Events.{shown_after};
     ghost use Rattle.world_told.specs.Honest.{IsHonest};
+    ghost use Rattle.world_told.specs.Ledgers.{told_ledger};
 
     ghost honest = { λ p t. IsHonest p t.calls };
 
     ghost shows = { λ p t. shown_after p t.calls };
 
-    ghost ledger = { λ t. W.ledger t.world };
+    ghost ledger = { λ t. told_ledger W.ledger t };
 
     ghost healthy = { λ _. ⊥ };
 
@@ -65,9 +72,11 @@ impl<W: World> World for Told<W> {
     fn open_file(&mut self, name: &Text) -> Result<u32, OpenFault>
         requires { (W.ledger self.old.world).given < 2 ^ 32 - 1 }
         ensures given { IfOk result
-            (λ file. GivesOpened name.now file (W.ledger self.old.world) (W.ledger self.new.world)) }
+            (λ file. GivesOpened name.now file
+            (told_ledger W.ledger self.old) (told_ledger W.ledger self.new)) }
         ensures not_given { OnErr result
-            (KeepsLedgerReading (W.ledger self.old.world) (W.ledger self.new.world)) }
+            (KeepsLedgerReading
+            (told_ledger W.ledger self.old) (told_ledger W.ledger self.new)) }
         ensures cause { IsErrOf result OpenFault.Failed
             → Rose (W.ledger self.old.world).read_faults (W.ledger self.new.world).read_faults }
         ensures noted { self.new.calls ≡ after_open name.now result self.old.calls }
@@ -83,11 +92,16 @@ impl<W: World> World for Told<W> {
     }
 
     fn fill(&mut self, file: u32, piece: &mut [u8]) -> Filled
-        requires { IsTrue ((W.ledger self.old.world).opened file) }
+        requires { IsTrue ((told_ledger W.ledger self.old).opened file) }
         ensures count { FillCount result (length piece.old) }
-        ensures ledger { KeepsLedgerReading (W.ledger self.old.world) (W.ledger self.new.world) }
+        ensures ledger { KeepsLedgerReading
+            (told_ledger W.ledger self.old) (told_ledger W.ledger self.new) }
         ensures cause { result ≡ Filled.Failed
             → Rose (W.ledger self.old.world).read_faults (W.ledger self.new.world).read_faults }
+        ensures end_found { result ≡ Filled.End
+            → (told_ledger W.ledger self.new).ended file ≡ true }
+        ensures nothing_more { (told_ledger W.ledger self.old).ended file ≡ true
+            → FilledNothing result }
         ensures noted { self.new.calls ≡ after_fill file result piece.new self.old.calls }
         ensures through { (p : Start) → W.honest p self.new.world
             → ReadsFile file (filled_bytes result piece.new)
@@ -107,9 +121,11 @@ impl<W: World> World for Told<W> {
     fn create_file(&mut self, name: &Text) -> Result<u32, OpenFault>
         requires { (W.ledger self.old.world).given < 2 ^ 32 - 1 }
         ensures given { IfOk result
-            (λ file. GivesCreated file (W.ledger self.old.world) (W.ledger self.new.world)) }
+            (λ file. GivesCreated file
+            (told_ledger W.ledger self.old) (told_ledger W.ledger self.new)) }
         ensures not_given { OnErr result
-            (KeepsLedgerWriting (W.ledger self.old.world) (W.ledger self.new.world)) }
+            (KeepsLedgerWriting
+            (told_ledger W.ledger self.old) (told_ledger W.ledger self.new)) }
         ensures cause { IsErrOf result OpenFault.Failed
             → Rose (W.ledger self.old.world).write_faults (W.ledger self.new.world).write_faults }
         ensures noted { self.new.calls ≡ after_create name.now result self.old.calls }
@@ -125,9 +141,10 @@ impl<W: World> World for Told<W> {
     }
 
     fn put(&mut self, file: u32, piece: &[u8]) -> Put
-        requires { IsTrue (is_writable (W.ledger self.old.world) file) }
+        requires { IsTrue (is_writable (told_ledger W.ledger self.old) file) }
         ensures count { PutCount result (length piece.now) }
-        ensures ledger { KeepsLedgerWriting (W.ledger self.old.world) (W.ledger self.new.world) }
+        ensures ledger { KeepsLedgerWriting
+            (told_ledger W.ledger self.old) (told_ledger W.ledger self.new) }
         ensures cause { result ≡ Put.Failed
             → Rose (W.ledger self.old.world).write_faults (W.ledger self.new.world).write_faults }
         ensures noted { self.new.calls ≡ after_put file result piece.now self.old.calls }

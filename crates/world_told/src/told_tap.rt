@@ -1,5 +1,6 @@
 ghost use Rattle.std.specs.Prelude.{IsTrue};
 ghost use Rattle.world_io.specs.World.{is_writable};
+ghost use Rattle.world_told.specs.Ledgers.{told_ledger};
 
 use crate::Told;
 use world_io::{OpenFault, World};
@@ -14,7 +15,7 @@ pub struct ToldTap<W: World> {
     pub file: u32,
     pub faults: u64,
     pub lacks: u64,
-    ghost writable: { IsTrue (is_writable (W.ledger world.world) file) },
+    ghost writable: { IsTrue (is_writable (told_ledger W.ledger world) file) },
 }
 
 /// Why the file of a tap was not created, and the world in which it was to be.

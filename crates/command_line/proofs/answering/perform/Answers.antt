@@ -63,3 +63,9 @@ returns-in-Version-clause-printed g c = any_text (asked_text c.args.words.now) _
 pub returns-in-Version-clause-creates_nothing : goal.returns-in-Version-clause-creates_nothing
 returns-in-Version-clause-creates_nothing g c e =
     absurd (printed_refuses c.print-in-Version.result c.print-in-Version.ensures.outcome e)
+
+pub returns-in-Help-clause-orderly : goal.returns-in-Help-clause-orderly
+returns-in-Help-clause-orderly g c none = c.print.ensures.orderly
+
+pub returns-in-Version-clause-orderly : goal.returns-in-Version-clause-orderly
+returns-in-Version-clause-orderly g c none = c.print-in-Version.ensures.orderly

@@ -5,6 +5,8 @@ use Rattle.world_real.specs.Real.{real_ledger}
 use Rattle.release_taps.specs.Split.{AsksForTaps}
 use Rattle.world_told.specs.Events.{shown_after}
 use Rattle.world_told.specs.Honest.{IsHonest}
+use Rattle.world_told.specs.Ledgers.{told_ledger}
+use Rattle.world_told.specs.Orderly.{are_orderly, created_in}
 use Rattle.world_told.specs.Sent.{name_of, sent_to}
 use Rattle.job_commands.specs.declared.status.Status.TheVariants.{BadWords}
 use Rattle.command_line.specs.Running.{AskedNothing, IsNotBegun, PrintsFiles, RunsFiles, TapsMirror}
@@ -45,7 +47,7 @@ returns-clause-mirrors g c =
     (λ words.
     (pairs : ℕ) → AsksForTaps words pairs
     → IsNotBegun (λ w. (real_ledger w).write_faults) run.result.refused run.result.status [] run.result.world.calls
-    ⊎ TapsMirror (λ p t. IsHonest p t.calls) (λ p t. shown_after p t.calls) (λ t. real_ledger t.world)
+    ⊎ TapsMirror (λ p t. IsHonest p t.calls) (λ p t. shown_after p t.calls) (told_ledger real_ledger)
     (λ t. (t.faults ≡ 0) × (t.lacks ≡ 0)) (λ t. sent_to t.file t.world.calls) (λ t. t.faults) (λ t. t.lacks)
     (λ t. name_of t.file t.world.calls) words pairs run.result.world run.result.taps.items)
     (λ pairs asks. not_begun (λ w. (real_ledger w).write_faults) run.result.refused run.result.status c.of-world.result
@@ -57,6 +59,15 @@ returns-clause-apart g c =
     (subst (λ w. IfOk c.args.arguments (λ all. w ≡ words_of all)) (sym c.as_slice-texts.ensures.value)
     c.in-Ok.ensures.words) _ (λ words. NoneClash (g.N.Names.may c.args.names.now) words)
     (c.one_file.ensures.none c.in_default.is)
+
+pub returns-clause-orderly : goal.returns-clause-orderly
+returns-clause-orderly g c = c.run_words-run.ensures.orderly ∙ ap (λ t. are_orderly t.calls) c.of-world.ensures
+
+pub returns-in-Some-clause-orderly : goal.returns-in-Some-clause-orderly
+returns-in-Some-clause-orderly g c = ap (λ t. are_orderly t.calls) c.of-world.ensures
+
+pub returns-in-Err-clause-orderly : goal.returns-in-Err-clause-orderly
+returns-in-Err-clause-orderly g c = ap (λ t. are_orderly t.calls) c.of-world.ensures
 
 pub returns-clause-no_words : goal.returns-clause-no_words
 returns-clause-no_words g c = read c.args.arguments _ c.in-Ok.ensures.refused
@@ -92,7 +103,7 @@ run_words-run-requires-clause-room g c κs within =
 
 pub run_words-run-requires-clause-new_world : goal.run_words-run-requires-clause-new_world
 run_words-run-requires-clause-new_world g c κs within file =
-    ap (λ t. (real_ledger t.world).created file) c.of-world.ensures ∙ c.new.ensures.created file
+    ap (λ t. created_in file t.calls) c.of-world.ensures
 
 pub run_words-run-requires-clause-fresh : goal.run_words-run-requires-clause-fresh
 run_words-run-requires-clause-fresh g c κs within p h =

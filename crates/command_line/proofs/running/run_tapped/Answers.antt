@@ -22,6 +22,9 @@ returns-in-Ok-tapped-clause-mirrors g c =
           run.mirrors;
     })
 
+pub returns-in-Ok-tapped-clause-orderly : goal.returns-in-Ok-tapped-clause-orderly
+returns-in-Ok-tapped-clause-orderly g c = c.in-Ok-tapped.ensures.answers.orderly
+
 pub returns-in-Err-clause-answers : goal.returns-in-Err-clause-answers
 returns-in-Err-clause-answers g c =
     let status = c.status_without.ensures in

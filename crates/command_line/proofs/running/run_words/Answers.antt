@@ -45,6 +45,12 @@ returns-in-Taps-clause-write_fault g c =
     tapped-write_fault _ _ _ _ _ _ _ c.args.words.now c.run_tapped.result.status c.args.world c.run_tapped.result.world
     (g.V.World.ledger c.run_tapped.result.out) c.in-Taps.pairs c.in-Taps.ensures.0 c.run_tapped.ensures.answers
 
+pub returns-in-Plain-clause-orderly : goal.returns-in-Plain-clause-orderly
+returns-in-Plain-clause-orderly g c = c.run_plain.ensures.orderly c.requires.new_world
+
+pub returns-in-Taps-clause-orderly : goal.returns-in-Taps-clause-orderly
+returns-in-Taps-clause-orderly g c = c.run_tapped.ensures.orderly c.requires.new_world
+
 pub returns-in-Bad-clause-prints : goal.returns-in-Bad-clause-prints
 returns-in-Bad-clause-prints g c asks = absurd (asks.no_tap c.in-Bad.ensures.0)
 

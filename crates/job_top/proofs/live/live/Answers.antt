@@ -97,6 +97,10 @@ returns-in-Ok-clause-opens_in_order g c =
 pub returns-in-Ok-clause-opens_all : goal.returns-in-Ok-clause-opens_all
 returns-in-Ok-clause-opens_all g c e = c.live_box.ensures.writes_files.ledger.opened_names ∙ c.in-Ok.ensures.opened
 
+pub returns-in-Ok-clause-orderly : goal.returns-in-Ok-clause-orderly
+returns-in-Ok-clause-orderly g c none =
+    c.live_box.ensures.writes_files.ledger.orderly ∙ c.in-Ok.ensures.only_reads.ledger.orderly none
+
 -- an input is refused
 
 pub returns-in-Err-clause-creates_nothing : goal.returns-in-Err-clause-creates_nothing
@@ -135,6 +139,9 @@ returns-in-Err-clause-judged g c p q =
 
 pub returns-in-Err-clause-opens_in_order : goal.returns-in-Err-clause-opens_in_order
 returns-in-Err-clause-opens_in_order g c = c.in-Err.ensures.only_reads.ledger.opened
+
+pub returns-in-Err-clause-orderly : goal.returns-in-Err-clause-orderly
+returns-in-Err-clause-orderly g c = c.in-Err.ensures.only_reads.ledger.orderly
 
 pub returns-in-Err-clause-opens_all : goal.returns-in-Err-clause-opens_all
 returns-in-Err-clause-opens_all g c e = absurd (quiet_done c.in-Err.status e c.in-Err.ensures.quiet)

@@ -1,4 +1,4 @@
-use Rattle.std.proofs.Common.{◌∷◌, [], ◌∙◌, arith, inl}
+use Rattle.std.proofs.Common.{◌∷◌, [], ◌∙◌, ap, arith, inl}
 use Rattle.input_files.proofs.OnlyReading.{OpensFirst-more, OpensFirst-then, opened_then}
 use Rattle.job_commands.specs.HandWords.{resume_names_of, resume_source}
 use Rattle.job_commands.specs.Resume.{resumed_setting}
@@ -117,6 +117,11 @@ pub returns-in-Ok-clause-write_fault : goal.returns-in-Ok-clause-write_fault
 returns-in-Ok-clause-write_fault g c e =
     failed_since _ _ _ _ _ _ c.in-Ok.ensures.only_reads (c.resume_kinds.ensures.write_fault e)
 
+pub returns-in-Ok-clause-orderly : goal.returns-in-Ok-clause-orderly
+returns-in-Ok-clause-orderly g c none =
+    c.resume_kinds.ensures.orderly (λ k. ap (λ f. f k) c.in-Ok.ensures.only_reads.ledger.created ∙ none k)
+    ∙ c.in-Ok.ensures.only_reads.ledger.orderly none
+
 pub returns-in-Ok-clause-opens_in_order : goal.returns-in-Ok-clause-opens_in_order
 returns-in-Ok-clause-opens_in_order g c =
     OpensFirst-then (resume_source (resume_names_of c.args.names)) (c.args.names.script.now ∷ []) _ _ _
@@ -160,6 +165,9 @@ pub returns-in-Err-clause-opens_in_order : goal.returns-in-Err-clause-opens_in_o
 returns-in-Err-clause-opens_in_order g c =
     OpensFirst-more (resume_source (resume_names_of c.args.names)) (c.args.names.script.now ∷ []) _ _
     c.in-Err.ensures.only_reads.ledger.opened
+
+pub returns-in-Err-clause-orderly : goal.returns-in-Err-clause-orderly
+returns-in-Err-clause-orderly g c = c.in-Err.ensures.only_reads.ledger.orderly
 
 pub returns-in-Err-clause-opens_all : goal.returns-in-Err-clause-opens_all
 returns-in-Err-clause-opens_all g c e = absurd (quiet_done c.in-Err.status e c.in-Err.ensures.quiet)
