@@ -39,14 +39,15 @@ use Rattle.balancer_box.specs.declared.place.Goes.{Goes}
 use Rattle.balancer_box.specs.Loads.{raised, lowered, least_loaded, no_loads}
 use Rattle.balancer_box.specs.Connections.{closed, without_if, has_ended}
 use Rattle.balancer_box.specs.Places.{place_numbered}
-use Rattle.balancer_box.specs.Balancer.{Settings, next_move, is_virtual, backend_at, begun_answer, begun_flow, begun}
+use Rattle.balancer_box.specs.Settings.{Settings, AreSettings}
+use Rattle.balancer_box.specs.Balancer.{next_move, is_virtual, backend_at, begun_answer, begun_flow, begun}
 use Rattle.balancer_box.specs.Balancer.{begins, goes_to, after_find, after_bind, after_check, touched, after_time, told}
 use Rattle.balancer_box.specs.Balancer.{tells_by, heard, phase_then, ends, noting, after_idle, opens, gives_way, met}
 use Rattle.balancer_box.specs.Balancer.{met_there, met_by, new_slot, gives_up, connected_by, checked_there, checked_by}
 use Rattle.balancer_box.specs.Balancer.{finds, connects, checks, MayConnect}
 use Rattle.balancer_box.specs.Balancer.{local_at, fresh_value, noted_by, balancer_meaning, Fits}
 use Rattle.balancer_box.specs.Noting.{place_again, IsNoted, is_noted, noted_again}
-use Rattle.balancer_box.specs.Lawful.{AreSettings, var_of, touches_it, below_all, balancer_lawful}
+use Rattle.balancer_box.specs.Lawful.{var_of, touches_it, below_all, balancer_lawful}
 use Rattle.balancer_box.specs.Charges.{load_in, of_backend, counted, connections_of, owed, in_hand, in_values}
 use Rattle.balancer_box.specs.Charges.{in_hands, charge, IsCharged, LoadsAreCharges}
 use Rattle.balancer_box.proofs.LoadLemmas.{raised_here, raised_other, lowered_here, lowered_other, one_up, one_down}

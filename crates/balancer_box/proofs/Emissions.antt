@@ -40,12 +40,13 @@ use Rattle.balancer_box.specs.declared.place.Tells.{Tells}
 use Rattle.balancer_box.specs.declared.place.Noted.{Noted}
 use Rattle.balancer_box.specs.declared.value.BalancerValue.{BalancerValue}
 use Rattle.balancer_box.specs.declared.value.BalancerValue.TheVariants.{Dropped, Loaded, Connected}
-use Rattle.balancer_box.specs.declared.backends.Backend.{Backend}
+use Rattle.balancer_box.specs.declared.settings.Backend.{Backend}
 use Rattle.balancer_box.specs.declared.place.Goes.{Goes}
 use Rattle.balancer_box.specs.Loads.{least_loaded}
 use Rattle.balancer_box.specs.Connections.{closed, without_if, has_ended}
 use Rattle.balancer_box.specs.Places.{place_numbered}
-use Rattle.balancer_box.specs.Balancer.{Settings, goes, next_move, resets, is_virtual, backend_at, nothing_noted}
+use Rattle.balancer_box.specs.Settings.{Settings, AreSettings}
+use Rattle.balancer_box.specs.Balancer.{goes, next_move, resets, is_virtual, backend_at, nothing_noted}
 use Rattle.balancer_box.specs.Balancer.{of_client, of_answer, begun_answer, begun_flow, begun, begins, goes_to}
 use Rattle.balancer_box.specs.Balancer.{after_find, after_bind, after_check, touched, after_time, told, frame_to}
 use Rattle.balancer_box.specs.Balancer.{tells_by, phase_then, ends, noting, after_idle, gives_way, met, met_there}
@@ -53,7 +54,7 @@ use Rattle.balancer_box.specs.Balancer.{met_by, new_slot, gives_up, connected_by
 use Rattle.balancer_box.specs.Balancer.{finds, connects, checks}
 use Rattle.balancer_box.specs.Balancer.{frame_out, local_at, noted_by, balancer_meaning, Fits}
 use Rattle.balancer_box.specs.Noting.{place_again, IsNoted, is_noted, noted_again}
-use Rattle.balancer_box.specs.Lawful.{AreSettings, var_of, touches_it, below_all, balancer_lawful}
+use Rattle.balancer_box.specs.Lawful.{var_of, touches_it, below_all, balancer_lawful}
 use Rattle.balancer_box.specs.Emissions.{Trail, no_trail, trail_of_touch, trail_by, trail_of, naming}
 use Rattle.balancer_box.specs.Emissions.{WasConnected, Lived, ReachesBackend, ComesFromVirtual, IsSentOnOf}
 use Rattle.balancer_box.specs.Emissions.{EmissionsFollowConnections}

@@ -14,11 +14,11 @@ use Rattle.nat_tables.specs.declared.entries.Endpoint.{Endpoint}
 use Rattle.nat_tables.specs.declared.slot.Slot.{Slot}
 use Rattle.nat_tables.specs.Forwards.{Forwards, slot_of, lives}
 use Rattle.flow_boxes.specs.Flows.{HaveBytes, source_of, dest_of}
-use Rattle.balancer_box.specs.declared.backends.Backend.{Backend}
+use Rattle.balancer_box.specs.declared.settings.Backend.{Backend}
 use Rattle.balancer_box.specs.declared.value.BalancerValue.{BalancerValue}
 use Rattle.balancer_box.specs.declared.value.BalancerValue.TheVariants.{Dropped, Loaded, Connected}
-use Rattle.balancer_box.specs.Balancer.{Settings, is_virtual, backend_at, resets, balancer_meaning}
-use Rattle.balancer_box.specs.Lawful.{AreSettings}
+use Rattle.balancer_box.specs.Settings.{Settings, AreSettings}
+use Rattle.balancer_box.specs.Balancer.{is_virtual, backend_at, resets, balancer_meaning}
 
 -- What the moves of a packet in hand met: the connection table as its newest touch of one found it and left it, and the
 -- time that it was told.

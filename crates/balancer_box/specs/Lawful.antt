@@ -25,7 +25,7 @@ use Rattle.nat_tables.specs.Forwards.{Forwards, is_idle, slot_of, first_idle, fo
 use Rattle.nat_tables.specs.Forwards.{AreMappings, refresh, lives_at}
 use Rattle.nat_tables.proofs.Keeping.{keeps_refreshed, keeps_without, keeps_without_idle, keeps_bound, keeps_in_phase}
 use Rattle.nat_tables.proofs.Keeping.{may_slot}
-use Rattle.balancer_box.specs.declared.backends.Backend.{Backend}
+use Rattle.balancer_box.specs.declared.settings.Backend.{Backend}
 use Rattle.balancer_box.specs.declared.place.Place.{Place}
 use Rattle.balancer_box.specs.declared.place.Place.TheVariants.{HearsTime, FindsConnection, LowersIdle, RaisesLeast}
 use Rattle.balancer_box.specs.declared.place.Place.TheVariants.{Connects, LowersSpare, ChecksConnection, CountsDrop}
@@ -42,7 +42,8 @@ use Rattle.balancer_box.specs.Loads.{raised, lowered, least_loaded, no_loads}
 use Rattle.balancer_box.specs.Connections.{closed, find_connection, without_if, check_connection, has_ended}
 use Rattle.balancer_box.specs.Connections.{phase_finished, phase_told}
 use Rattle.balancer_box.specs.Places.{place_numbered}
-use Rattle.balancer_box.specs.Balancer.{Settings, table_of, next_move, moves_left, is_virtual, backend_at, begun_answer}
+use Rattle.balancer_box.specs.Settings.{Settings, AreSettings}
+use Rattle.balancer_box.specs.Balancer.{table_of, next_move, moves_left, is_virtual, backend_at, begun_answer}
 use Rattle.balancer_box.specs.Balancer.{begun, begins, goes_to, after_find, after_bind, after_check, touched}
 use Rattle.balancer_box.specs.Balancer.{after_time, told, frame_to, frame_out, bytes_out, local_at, fresh_value}
 use Rattle.balancer_box.specs.Balancer.{phase_then, ends, noting, after_idle, gives_way, met, met_there, met_by}
@@ -50,13 +51,6 @@ use Rattle.balancer_box.specs.Balancer.{new_slot, gives_up, connected_by, checke
 use Rattle.balancer_box.specs.Balancer.{checks, tells_by}
 use Rattle.balancer_box.specs.Balancer.{noted_by, balancer_meaning, HasPhase, MayConnect, Fits}
 use Rattle.balancer_box.specs.Noting.{place_again, IsNoted, is_noted}
-
--- what may be configured
-pub record AreSettings (s : Settings) : Type 0 where
-  pub some : 1 ≤ s.shards
-  pub few : s.shards ≤ 64
-  pub some_backends : 1 ≤ length s.backends
-  pub few_backends : length s.backends ≤ 64
 
 -- which variable is touched
 

@@ -1,3 +1,4 @@
+pub mod Settings
 pub mod Loads
 pub mod Connections
 pub mod Places

@@ -27,11 +27,12 @@ use Rattle.balancer_box.specs.declared.value.BalancerValue.{BalancerValue}
 use Rattle.balancer_box.specs.declared.value.BalancerValue.TheVariants.{Dropped, Loaded, Connected}
 use Rattle.balancer_box.specs.Connections.{closed, without_if, has_ended}
 use Rattle.balancer_box.specs.Places.{place_numbered}
-use Rattle.balancer_box.specs.Balancer.{Settings, next_move, heard, phase_then, noting, opens, gives_way}
+use Rattle.balancer_box.specs.Settings.{Settings, AreSettings}
+use Rattle.balancer_box.specs.Balancer.{next_move, heard, phase_then, noting, opens, gives_way}
 use Rattle.balancer_box.specs.Balancer.{met as met_connection, met_there, met_by, new_slot, connected_by}
 use Rattle.balancer_box.specs.Balancer.{checked_there, checked_by, finds, connects, checks, touched, noted_by}
 use Rattle.balancer_box.specs.Balancer.{balancer_meaning, MayConnect, Fits}
-use Rattle.balancer_box.specs.Lawful.{AreSettings, balancer_lawful}
+use Rattle.balancer_box.specs.Lawful.{balancer_lawful}
 use Rattle.balancer_box.specs.Entries.{connections_in}
 use Rattle.balancer_box.specs.Emissions.{Trail, trail_of}
 use Rattle.balancer_box.proofs.ConnectionLemmas.{without_refreshed, lives_there}

@@ -35,12 +35,13 @@ use Rattle.balancer_box.specs.declared.value.BalancerValue.TheVariants.{Dropped,
 use Rattle.balancer_box.specs.declared.place.Goes.{Goes}
 use Rattle.balancer_box.specs.Connections.{closed, without_if, phase_finished, phase_told}
 use Rattle.balancer_box.specs.Places.{place_numbered}
-use Rattle.balancer_box.specs.Balancer.{Settings, is_virtual, backend_at, tells_of, tells_by, begun_answer, begun_flow}
+use Rattle.balancer_box.specs.Settings.{Settings, AreSettings}
+use Rattle.balancer_box.specs.Balancer.{is_virtual, backend_at, tells_of, tells_by, begun_answer, begun_flow}
 use Rattle.balancer_box.specs.Balancer.{begins, goes_to, after_find, after_bind, after_check, phase_then}
 use Rattle.balancer_box.specs.Balancer.{noting, gives_way, met, met_there, met_by, new_slot, connected_by}
 use Rattle.balancer_box.specs.Balancer.{checked_there, checked_by, finds, connects, checks, touched, local_at, noted_by}
 use Rattle.balancer_box.specs.Balancer.{balancer_meaning, HasPhase, MayConnect, Fits}
-use Rattle.balancer_box.specs.Lawful.{AreSettings, balancer_lawful}
+use Rattle.balancer_box.specs.Lawful.{balancer_lawful}
 use Rattle.balancer_box.specs.Entries.{connections_in}
 use Rattle.balancer_box.specs.Emissions.{Trail, trail_of}
 use Rattle.balancer_box.proofs.ConnectionLemmas.{slot_refreshed, slot_in_phase, slot_appended, without_refreshed}

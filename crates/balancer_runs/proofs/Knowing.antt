@@ -37,7 +37,8 @@ use Rattle.balancer_box.specs.declared.place.Goes.{Goes}
 use Rattle.balancer_box.specs.Loads.{least_loaded}
 use Rattle.balancer_box.specs.Connections.{has_ended}
 use Rattle.balancer_box.specs.Places.{place_numbered}
-use Rattle.balancer_box.specs.Balancer.{Settings, goes, next_move, resets, is_virtual, backend_at}
+use Rattle.balancer_box.specs.Settings.{Settings, AreSettings}
+use Rattle.balancer_box.specs.Balancer.{goes, next_move, resets, is_virtual, backend_at}
 use Rattle.balancer_box.specs.Balancer.{of_client, begun_answer, begun_flow, begun, begins, goes_to}
 use Rattle.balancer_box.specs.Balancer.{after_find, after_bind, after_check, touched, after_time, told, local_at}
 use Rattle.balancer_box.specs.Balancer.{tells_by, heard, ends, after_idle, opens, gives_way, met as met_connection}
@@ -45,7 +46,7 @@ use Rattle.balancer_box.specs.Balancer.{met_there, met_by, new_slot, gives_up, c
 use Rattle.balancer_box.specs.Balancer.{finds, connects, checks, dropped, no_connection}
 use Rattle.balancer_box.specs.Balancer.{noted_by, balancer_meaning, Fits}
 use Rattle.balancer_box.specs.Noting.{place_again, IsNoted, is_noted, noted_again}
-use Rattle.balancer_box.specs.Lawful.{AreSettings, var_of, touches_it, below_all, balancer_lawful}
+use Rattle.balancer_box.specs.Lawful.{var_of, touches_it, below_all, balancer_lawful}
 use Rattle.balancer_box.specs.Emissions.{Trail, no_trail, trail_of_touch, trail_by, trail_of}
 use Rattle.balancer_box.proofs.LoadLemmas.{has_least}
 use Rattle.balancer_box.proofs.Noting.{touched_noted, told_noted}

@@ -5,7 +5,7 @@ pub mod Knowing
 pub mod Connections
 pub mod DropCauses
 pub mod Reasons
-pub mod BusyConnections
+pub mod LiveConnections
 pub mod LoadTouches
 pub mod Following
 pub mod Refreshing

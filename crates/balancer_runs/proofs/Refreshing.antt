@@ -28,11 +28,12 @@ use Rattle.balancer_box.specs.declared.value.BalancerValue.TheVariants.{Dropped,
 use Rattle.flow_boxes.specs.Flows.{source_of}
 use Rattle.balancer_box.specs.Connections.{closed, without_if}
 use Rattle.balancer_box.specs.Places.{place_numbered}
-use Rattle.balancer_box.specs.Balancer.{Settings, is_virtual, next_move, phase_then, noting, gives_way, met, met_there}
+use Rattle.balancer_box.specs.Settings.{Settings, AreSettings}
+use Rattle.balancer_box.specs.Balancer.{is_virtual, next_move, phase_then, noting, gives_way, met, met_there}
 use Rattle.balancer_box.specs.Balancer.{met_by, new_slot, connected_by, checked_there, checked_by, finds, connects}
 use Rattle.balancer_box.specs.Balancer.{checks}
 use Rattle.balancer_box.specs.Balancer.{touched, noted_by, balancer_meaning, MayConnect, Fits}
-use Rattle.balancer_box.specs.Lawful.{AreSettings, balancer_lawful}
+use Rattle.balancer_box.specs.Lawful.{balancer_lawful}
 use Rattle.balancer_box.specs.Entries.{connections_in}
 use Rattle.balancer_box.specs.Emissions.{Trail, trail_of}
 use Rattle.balancer_box.proofs.ConnectionLemmas.{slot_refreshed, slot_in_phase, slot_appended, without_refreshed}

@@ -16,8 +16,9 @@ use Rattle.packet_headers.specs.declared.flow.NotFlow.TheVariants.{OtherProtocol
 use Rattle.packet_headers.specs.View.{viewed}
 use Rattle.plain_machine.proofs.Histories.{is_eq}
 use Rattle.flow_boxes.specs.Drops.{reason_of}
-use Rattle.balancer_box.specs.declared.backends.Backend.{Backend}
-use Rattle.balancer_box.specs.Balancer.{Settings, is_virtual, backend_at}
+use Rattle.balancer_box.specs.declared.settings.Backend.{Backend}
+use Rattle.balancer_box.specs.Settings.{Settings}
+use Rattle.balancer_box.specs.Balancer.{is_virtual, backend_at}
 use Rattle.balancer_box.specs.Emissions.{Trail, trail_of, IsSentOnOf}
 use Rattle.balancer_box.proofs.Emissions.{emissions_follow}
 use Rattle.balancer_runs.specs.Causes.{HasCause, IsUnconnected}

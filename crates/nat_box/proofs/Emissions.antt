@@ -36,17 +36,18 @@ use Rattle.nat_box.specs.declared.place.Noted.{Noted}
 use Rattle.nat_box.specs.declared.value.NatValue.{NatValue}
 use Rattle.nat_box.specs.declared.value.NatValue.TheVariants.{Dropped, Free, Mapped, Taken}
 use Rattle.flow_boxes.specs.Flows.{endpoint, source_of, HaveBytes}
-use Rattle.nat_box.specs.Places.{place_numbered, noted, source_key, dest_key}
+use Rattle.nat_box.specs.Places.{place_numbered, noted, source_key, dest_key, drawn_word, no_port}
 use Rattle.nat_box.specs.declared.place.Goes.{Goes}
 use Rattle.flow_boxes.specs.Drops.{reason_of}
-use Rattle.nat_box.specs.Nat.{Settings, goes, next_move, class_of_flow, class_of_error, flow_of_error, seen_by}
+use Rattle.nat_box.specs.Settings.{Settings, AreSettings}
+use Rattle.nat_box.specs.Nat.{goes, next_move, class_of_flow, class_of_error, flow_of_error, seen_by}
 use Rattle.nat_box.specs.Nat.{flow_in, class_in, flow_seen, class_seen, noted_flow, nothing_noted, begun_by}
-use Rattle.nat_box.specs.Nat.{used_slot, used_port, after_port, error_out, bytes_out, MayMap}
+use Rattle.nat_box.specs.Nat.{live_slot, live_port, after_port, error_out, bytes_out, MayMap}
 use Rattle.icmp_errors.specs.declared.error.IcmpError.{IcmpError}
 use Rattle.nat_box.specs.declared.seeing.Seen.{Seen}
 use Rattle.nat_box.specs.declared.seeing.Seen.TheVariants.{OfFlow, OfError, OfNeither}
 use Rattle.nat_box.proofs.SeenAs.{flow_whole, error_not_outbound, error_not_hairpin, flow_not_error, same_flow}
-use Rattle.nat_box.proofs.UsedPorts.{used_is, used_lives}
+use Rattle.nat_box.proofs.LivePorts.{live_is, live_lives}
 use Rattle.nat_tables.proofs.Keeping.{may_slot}
 use Rattle.nat_tables.specs.Forwards.{AreMappings}
 use Rattle.nat_box.specs.Nat.{begun, mapped, after_find, after_reserve, after_bind, touched, after_endpoint, looked_by}
@@ -54,7 +55,7 @@ use Rattle.nat_box.specs.Nat.{looked, after_time, told, frame_out, local_at, nat
 use Rattle.nat_box.specs.Nat.{followed, touched_by}
 use Rattle.nat_box.specs.LimitLaws.{Comes, IsPort, touch_comes}
 use Rattle.nat_box.specs.Noting.{place_again, IsNoted, is_noted, noted_again}
-use Rattle.nat_box.specs.Lawful.{AreSettings, var_of, touches_it, reads_it, below_all, nat_lawful}
+use Rattle.nat_box.specs.Lawful.{var_of, touches_it, reads_it, below_all, nat_lawful}
 use Rattle.nat_box.specs.Emissions.{Trail, no_trail, left_forward, trail_by, trail_of, WasMapped, Lived}
 use Rattle.nat_box.specs.Emissions.{IsTranslated, IsTranslationOf, EmissionsTranslate}
 use Rattle.nat_box.proofs.Noting.{touched_noted}
@@ -288,7 +289,7 @@ module _ (s : Settings) (p : Packet) where
   touch_known r DrawsWord x n v e k port = absurd (cc)
   touch_known r ReservesPort (Dropped d) n v e k port = tt
   touch_known r ReservesPort (Free pool) n v e k port =
-      reserved_known r n (reserve n.source.protocol n.source.port n.word pool).0 k.0 k.1 k.2
+      reserved_known r n (reserve n.source.protocol n.source.port (drawn_word n) pool).0 k.0 k.1 k.2
   touch_known r ReservesPort (Mapped es) n v e k port = tt
   touch_known r ReservesPort (Taken bs) n v e k port = tt
   touch_known r BindsPort (Dropped d) n v e k port = tt
@@ -332,7 +333,7 @@ module _ (s : Settings) (p : Packet) where
       let known : KnownAt s r p FindsOrBinds n = subst (λ (q : Place). KnownAt s r p q n) refused.at k in
       let none : IsPort s.limit 0 → ⊥ = rw refused.within (λ is. absurd (cc)) in
       rw refused.goes_on (
-        base_on n (record n { port = 0; freed = source_key n }) refl refl refl known.0,
+        base_on n (record n { port = no_port; freed = source_key n }) refl refl refl known.0,
         known.1,
         known.2,
         λ port. absurd (none port),
@@ -376,13 +377,13 @@ module _ (s : Settings) (p : Packet) where
   )
   lives_known r es n false is k = tt
 
-  port_known : (r : Trail) (es : Forwards) (n : Noted) (o : Option ℕ) → used_port n.source n.time es ≡ o
+  port_known : (r : Trail) (es : Forwards) (n : Noted) (o : Option ℕ) → live_port n.source n.time es ≡ o
       → KnownAt s r p FindsPort n
       → (let g = after_port n o in KnownAt s (after_look (Mapped es) r) p g.place g.noted)
   port_known r es n (Some port) is k =
       let m : Noted = record n { port = port } in
       let lived : Lived (after_look (Mapped es) r) n.source port =
-      (es, n.time, refl, k.1, used_lives n.source n.time port es is) in (
+      (es, n.time, refl, k.1, live_lives n.source n.time port es is) in (
         base_on n m refl refl refl k.0,
         subst (λ (c : Class). IfOutward c (WasMapped r.forward m.source m.port)) (sym k.2) tt,
         subst (λ (c : Class). IfInward c (Lived (after_look (Mapped es) r) m.target m.dest_port)) (sym k.2) tt,
@@ -415,7 +416,7 @@ module _ (s : Settings) (p : Packet) where
   look_known r Ends x n v e k = absurd (cc)
   look_known r FindsPort (Dropped d) n v e k = tt
   look_known r FindsPort (Free pool) n v e k = tt
-  look_known r FindsPort (Mapped es) n v e k = port_known r es n (used_port n.source n.time es) refl k
+  look_known r FindsPort (Mapped es) n v e k = port_known r es n (live_port n.source n.time es) refl k
   look_known r FindsPort (Taken bs) n v e k = tt
 
   abbrev after_clock : ℕ → Trail → Trail
@@ -459,7 +460,7 @@ module _ (s : Settings) (p : Packet) where
   draw_known r FindsMapping a n e k = absurd (cc)
   draw_known r UnbindsFreed a n e k = absurd (cc)
   draw_known r GivesBackFreed a n e k = absurd (cc)
-  draw_known r DrawsWord a n e k = (base_on n (record n { word = a }) refl refl refl k.0, k.1, k.2)
+  draw_known r DrawsWord a n e k = (base_on n (record n { word_or_reason = a }) refl refl refl k.0, k.1, k.2)
   draw_known r ReservesPort a n e k = absurd (cc)
   draw_known r BindsPort a n e k = absurd (cc)
   draw_known r FindsOrBinds a n e k = absurd (cc)
@@ -520,7 +521,7 @@ told_noted SendsOut a n is = is
 told_noted Ends a n is = is
 told_noted FindsPort a n is = is
 
-pub worded : (n : Noted) (x : ℕ) → IsNoted n → IsNoted (record n { word = x })
+pub worded : (n : Noted) (x : ℕ) → IsNoted n → IsNoted (record n { word_or_reason = x })
 worded n x is = record {
   protocol = is.protocol;
   address = is.address;
@@ -593,15 +594,15 @@ port_noted n (Some port) is small = ported n port (small port refl) is
 port_noted n None is small = worded n 7 is
 
 -- the port of a mapping of a forward table
-pub small_used : (s : Settings) (v : ℕ) (key : Endpoint) (now : ℕ) (es : Forwards) → AreMappings (MayMap s v) es
-    → (port : ℕ) → used_port key now es ≡ Some port → port < 2 ^ 16
-small_used s v key now es all port = by (slot_of key es) refl
+pub small_live : (s : Settings) (v : ℕ) (key : Endpoint) (now : ℕ) (es : Forwards) → AreMappings (MayMap s v) es
+    → (port : ℕ) → live_port key now es ≡ Some port → port < 2 ^ 16
+small_live s v key now es all port = by (slot_of key es) refl
   where
-    by : (o : Option Slot) → slot_of key es ≡ o → used_slot key now o ≡ Some port → port < 2 ^ 16
+    by : (o : Option Slot) → slot_of key es ≡ o → live_slot key now o ≡ Some port → port < 2 ^ 16
     by None q e = absurd (cc)
     by (Some slot) q e =
         let may = may_slot (MayMap s v) key slot es q all in
-        subst (λ (n : ℕ). n < 2 ^ 16) (used_is now key slot port e).1 may.2
+        subst (λ (n : ℕ). n < 2 ^ 16) (live_is now key slot port e).1 may.2
 
 looked_noted : (s : Settings) (place : Place) (x : NatValue) (n : Noted) (v : ℕ) → IsNoted n → Fits s v x
     → IsNoted (looked place x n).noted
@@ -630,7 +631,7 @@ looked_noted s Ends x n v is fits = is
 looked_noted s FindsPort (Dropped d) n v is fits = is
 looked_noted s FindsPort (Free pool) n v is fits = is
 looked_noted s FindsPort (Mapped es) n v is fits =
-    port_noted n (used_port n.source n.time es) is (small_used s v n.source n.time es fits.2)
+    port_noted n (live_port n.source n.time es) is (small_live s v n.source n.time es fits.2)
 looked_noted s FindsPort (Taken bs) n v is fits = is
 
 -- The beginning

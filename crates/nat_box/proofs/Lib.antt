@@ -8,5 +8,5 @@ pub mod Standing
 pub mod Sentences
 pub mod Making
 pub mod SeenAs
-pub mod UsedPorts
+pub mod LivePorts
 pub mod Emissions

@@ -54,10 +54,11 @@ use Rattle.nat_box.specs.declared.seeing.Seen.{Seen}
 use Rattle.nat_box.specs.declared.seeing.Seen.TheVariants.{OfFlow, OfError, OfNeither}
 use Rattle.nat_box.specs.declared.value.NatValue.{NatValue}
 use Rattle.nat_box.specs.declared.value.NatValue.TheVariants.{Dropped, Free, Mapped, Taken}
-use Rattle.nat_box.specs.Places.{place_numbered, noted, source_key, dest_key}
+use Rattle.nat_box.specs.Places.{place_numbered, noted, source_key, dest_key, drawn_word}
 use Rattle.nat_box.specs.declared.place.Goes.{Goes}
-use Rattle.nat_box.specs.Nat.{Settings, forward_table, reverse_table, next_move, moves_left, flow_in, class_in}
-use Rattle.nat_box.specs.Nat.{seen_by, begun_by, used_port, after_port, error_out}
+use Rattle.nat_box.specs.Settings.{Settings, AreSettings}
+use Rattle.nat_box.specs.Nat.{forward_table, reverse_table, next_move, moves_left, flow_in, class_in}
+use Rattle.nat_box.specs.Nat.{seen_by, begun_by, live_port, after_port, error_out}
 use Rattle.nat_box.specs.Nat.{begun, mapped, after_find, after_reserve, after_bind, touched, after_endpoint, looked_by}
 use Rattle.nat_box.specs.Nat.{looked, after_time, told, frame_out, bytes_out, local_at, fresh_value, nat_meaning}
 use Rattle.nat_box.specs.Nat.{MayMap, MayBind, HaveKept, Fits, HasPhase, followed_by, followed}
@@ -67,16 +68,6 @@ use Rattle.nat_box.specs.LimitLaws.{touch_within, within_fresh, within_followed}
 use Rattle.nat_box.specs.Statics.{inside_of, kept, outside_ports}
 use Rattle.nat_box.specs.StaticLaws.{fresh_mappings, fresh_kept, fresh_bound}
 use Rattle.nat_box.specs.Noting.{place_again, IsNoted, is_noted}
-
--- what may be configured
-pub record AreSettings (s : Settings) : Type 0 where
-  pub some : 1 ≤ s.shards
-  pub few : s.shards ≤ 64
-  pub long : 1 ≤ s.length
-  pub short : s.length ≤ 32
-  pub low : 1 ≤ s.low
-  pub order : s.low ≤ s.high
-  pub high : s.high < 2 ^ 16
 
 -- which variable is touched, and which read
 
@@ -194,7 +185,7 @@ touch_falls_at s GivesBackFreed (Taken bs) n v e = omega arith
 touch_falls_at s DrawsWord x n v e = absurd (cc)
 touch_falls_at s ReservesPort (Dropped d) n v e = omega arith
 touch_falls_at s ReservesPort (Free pool) n v e =
-    reserve_falls n (reserve n.source.protocol n.source.port n.word pool).0
+    reserve_falls n (reserve n.source.protocol n.source.port (drawn_word n) pool).0
 touch_falls_at s ReservesPort (Mapped es) n v e = omega arith
 touch_falls_at s ReservesPort (Taken bs) n v e = omega arith
 touch_falls_at s BindsPort (Dropped d) n v e = omega arith
@@ -269,7 +260,7 @@ look_falls_at s SendsOut x n v e = absurd (cc)
 look_falls_at s Ends x n v e = absurd (cc)
 look_falls_at s FindsPort (Dropped d) n v e = omega arith
 look_falls_at s FindsPort (Free pool) n v e = omega arith
-look_falls_at s FindsPort (Mapped es) n v e = port_falls n (used_port n.source n.time es)
+look_falls_at s FindsPort (Mapped es) n v e = port_falls n (live_port n.source n.time es)
 look_falls_at s FindsPort (Taken bs) n v e = omega arith
 
 time_falls : (n : Noted) (c : Class) → moves_left (after_time n c).place < 13
@@ -534,7 +525,7 @@ touched_fits s GivesBackFreed (Taken bs) n v is e fits within = fits
 touched_fits s DrawsWord x n v is e fits within = fits
 touched_fits s ReservesPort (Dropped d) n v is e fits within = fits
 touched_fits s ReservesPort (Free pool) n v is e fits within =
-    let a = fits_reserved s n.source.protocol n.source.port n.word pool (fits.1, fits.2, fits.3) in
+    let a = fits_reserved s n.source.protocol n.source.port (drawn_word n) pool (fits.1, fits.2, fits.3) in
     (fits.0, a.0, a.1, a.2)
 touched_fits s ReservesPort (Mapped es) n v is e fits within = fits
 touched_fits s ReservesPort (Taken bs) n v is e fits within = fits

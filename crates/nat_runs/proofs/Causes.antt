@@ -19,9 +19,10 @@ use Rattle.nat_box.specs.declared.place.Noted.{Noted}
 use Rattle.flow_boxes.specs.declared.drops.Drops.{Drops}
 use Rattle.nat_box.specs.declared.value.NatValue.{NatValue}
 use Rattle.nat_box.specs.declared.value.NatValue.TheVariants.{Dropped}
-use Rattle.nat_box.specs.Places.{noted}
-use Rattle.nat_box.specs.Nat.{Settings, touched_by, followed, nat_meaning, Fits}
-use Rattle.nat_box.specs.Lawful.{AreSettings, var_of, touches_it, nat_lawful}
+use Rattle.nat_box.specs.Places.{noted, drop_reason}
+use Rattle.nat_box.specs.Settings.{Settings, AreSettings}
+use Rattle.nat_box.specs.Nat.{touched_by, followed, nat_meaning, Fits}
+use Rattle.nat_box.specs.Lawful.{var_of, touches_it, nat_lawful}
 use Rattle.flow_boxes.proofs.HeldInputs.{IsHeld, run_holds}
 use Rattle.nat_box.proofs.Making.{comes_to}
 use Rattle.nat_runs.specs.Met.{Met, met_of}
@@ -52,9 +53,9 @@ counted s m U drew p _ _ n limit (finds_or_binds es) e k full = absurd (omega ar
 counted s m U drew p _ _ n limit (unbinds_lost bs) e k full = absurd (omega arith)
 counted s m U drew p _ _ n limit (gives_lost pool) e k full = absurd (omega arith)
 counted s m U drew p _ _ n None (counts d) e k full =
-    (d, n.word, refl, ap Dropped (drop_is n.word d k.0 k.1), k.2, full)
+    (d, drop_reason n, refl, ap Dropped (drop_is (drop_reason n) d k.0 k.1), k.2, full)
 counted s m U drew p _ _ n (Some most) (counts d) e k full =
-    (d, n.word, refl, ap Dropped (drop_is n.word d k.0 k.1), k.2, full)
+    (d, drop_reason n, refl, ap Dropped (drop_is (drop_reason n) d k.0 k.1), k.2, full)
 
 module _ (s : Settings) (is : AreSettings s) (packets : List Packet) (value : ℕ → NatValue) (t : ℕ)
     (earlier : List (Step NatValue)) (taken taken_then : ℕ)

@@ -42,15 +42,16 @@ use Rattle.nat_box.specs.declared.value.NatValue.{NatValue}
 use Rattle.nat_box.specs.declared.value.NatValue.TheVariants.{Free, Mapped}
 use Rattle.flow_boxes.specs.Flows.{source_of}
 use Rattle.flow_boxes.proofs.HeldInputs.{IsHeld, run_holds}
-use Rattle.nat_box.specs.Places.{place_numbered, noted, dest_key}
-use Rattle.nat_box.specs.Nat.{Settings, goes, dropped, over_limit, forward_table, class_seen, flow_seen, begun_by}
+use Rattle.nat_box.specs.Places.{place_numbered, noted, dest_key, drawn_word, drop_reason, is_refused}
+use Rattle.nat_box.specs.Settings.{Settings, AreSettings}
+use Rattle.nat_box.specs.Nat.{goes, dropped, over_limit, forward_table, class_seen, flow_seen, begun_by}
 use Rattle.nat_box.specs.Nat.{mapped}
 use Rattle.nat_box.specs.Nat.{after_find, after_reserve, after_bind, after_find_within, after_bind_within, after_lost}
-use Rattle.nat_box.specs.Nat.{touched_by, followed_by, followed, after_endpoint, looked_by, used_port, after_port}
+use Rattle.nat_box.specs.Nat.{touched_by, followed_by, followed, after_endpoint, looked_by, live_port, after_port}
 use Rattle.nat_box.specs.Nat.{looked}
 use Rattle.nat_box.specs.Nat.{after_time, told, local_at, begun, seen_by, nat_meaning, Fits}
 use Rattle.nat_box.specs.Noting.{place_again, IsNoted, is_noted, noted_again}
-use Rattle.nat_box.specs.Lawful.{AreSettings, var_of, touches_it, nat_lawful}
+use Rattle.nat_box.specs.Lawful.{var_of, touches_it, nat_lawful}
 use Rattle.nat_box.specs.Sentences.{mappings_in}
 use Rattle.nat_box.proofs.Noting.{touched_noted}
 use Rattle.nat_box.proofs.Emissions.{worded}
@@ -89,7 +90,7 @@ FullAt s m U d UnbindsLost n = d ≡ true
 FullAt s m U d GivesBackLost n = d ≡ true
 FullAt s m U d FindsEndpoint n = Unit {0}
 FullAt s m U d AsksIfLives n = Unit {0}
-FullAt s m U d CountsDrop n = n.word ≡ over_limit → U ⊎ (d ≡ true)
+FullAt s m U d CountsDrop n = drop_reason n ≡ over_limit → U ⊎ (d ≡ true)
 FullAt s m U d SendsOut n = Unit {0}
 FullAt s m U d Ends n = Unit {0}
 FullAt s m U d FindsPort n = Unit {0}
@@ -178,7 +179,7 @@ module _ (s : Settings) (m : Met) (U : Type 0) (d : Bool) where
       by : (b : Bool) → FullAt s m U d (looked_by n b).place (looked_by n b).noted
       by true = tt
       by false = not_over n
-  looked_full _ _ n (finds_port es) = by (used_port n.source n.time es)
+  looked_full _ _ n (finds_port es) = by (live_port n.source n.time es)
     where
       by : (o : Option ℕ) → FullAt s m U d (after_port n o).place (after_port n o).noted
       by (Some port) = tt
@@ -300,11 +301,11 @@ module _ (s : Settings) (U : Type 0) (d : Bool) (value : ℕ → NatValue) (v : 
   touch_full m _ _ n (Some most) limit is (gives_freed pool) it k = k
   touch_full m _ _ n None limit is (reserves pool) it k =
       reserved_full s (met_after m None ReservesPort (Free pool) n) (LeftBy None ReservesPort (Free pool) n) d n
-      (reserve n.source.protocol n.source.port n.word pool).0 k
+      (reserve n.source.protocol n.source.port (drawn_word n) pool).0 k
   touch_full m _ _ n (Some most) limit is (reserves pool) it k =
       reserved_full s (met_after m (Some most) ReservesPort (Free pool) n) (LeftBy (Some most) ReservesPort (Free pool)
       n)
-      d n (reserve n.source.protocol n.source.port n.word pool).0 k
+      d n (reserve n.source.protocol n.source.port (drawn_word n) pool).0 k
   touch_full m _ _ n None limit is (binds bs) it k = k
   touch_full m _ _ n (Some most) limit is (binds bs) it k = k
   touch_full m _ _ n None limit is (finds_or_binds es) it k =
@@ -320,7 +321,7 @@ module _ (s : Settings) (U : Type 0) (d : Bool) (value : ℕ → NatValue) (v : 
   touch_full m _ _ n (Some most) limit is (gives_lost pool) it k =
       lost_full s (met_after m (Some most) GivesBackLost (Free pool) n) (LeftBy (Some most) GivesBackLost (Free pool)
       n) d
-      n (n.port == 0) k
+      n (is_refused n) k
   touch_full m _ _ n None limit is (counts drops) it k = tt
   touch_full m _ _ n (Some most) limit is (counts drops) it k = tt
 
@@ -362,7 +363,7 @@ module _ (s : Settings) (is : AreSettings s) (packets : List Packet) (value : �
   told_word h a place q =
       let n : Noted = noted h.place in
       subst (λ (z : Place). Full s m (((v : ℕ) → value v ≡ value v) × U) true (goes_on h (told z a n))) (sym q)
-      (full_on s m (((v : ℕ) → value v ≡ value v) × U) true h (goes ReservesPort (record n { word = a }))
+      (full_on s m (((v : ℕ) → value v ≡ value v) × U) true h (goes ReservesPort (record n { word_or_reason = a }))
       (worded n a (is_noted h.place)) refl)
 
   pub move_keeps : (after : Thread) (e : Effect NatValue) (hand : Option Hand) (a : Option ℕ)

@@ -13,8 +13,9 @@ use Rattle.nat_box.specs.declared.place.Class.TheVariants.{Inbound}
 use Rattle.nat_box.specs.declared.place.Noted.{Noted}
 use Rattle.nat_box.specs.declared.value.NatValue.{NatValue}
 use Rattle.nat_box.specs.Places.{noted}
-use Rattle.nat_box.specs.Nat.{Settings, touched_by, followed, nat_meaning, Fits}
-use Rattle.nat_box.specs.Lawful.{AreSettings, var_of, touches_it, nat_lawful}
+use Rattle.nat_box.specs.Settings.{Settings, AreSettings}
+use Rattle.nat_box.specs.Nat.{touched_by, followed, nat_meaning, Fits}
+use Rattle.nat_box.specs.Lawful.{var_of, touches_it, nat_lawful}
 use Rattle.nat_box.proofs.Making.{comes_to}
 use Rattle.nat_runs.specs.Met.{Met, met_of}
 use Rattle.nat_runs.specs.Inbound.{IsInbound, IsError, InboundChangesNoTable}

@@ -43,17 +43,20 @@ use Rattle.nat_box.specs.declared.place.Noted.{Noted}
 use Rattle.nat_box.specs.declared.value.NatValue.{NatValue}
 use Rattle.nat_box.specs.declared.value.NatValue.TheVariants.{Dropped, Free, Mapped, Taken}
 use Rattle.flow_boxes.specs.Flows.{endpoint, source_of}
-use Rattle.nat_box.specs.Places.{place_numbered, noted, dest_key, local_of, number_of_segment, segment_numbered}
+use Rattle.nat_box.specs.Places.{place_numbered, noted, dest_key, local_of, packed, packed_port, packed_segment}
+use Rattle.nat_box.specs.Places.{drawn_word, drop_reason, is_refused, no_port}
 use Rattle.nat_box.specs.declared.place.Goes.{Goes}
-use Rattle.nat_box.specs.Nat.{Settings, goes, forward_table, reverse_table, class_of_flow, flow_in, class_in, flow_seen}
-use Rattle.nat_box.specs.Nat.{class_seen, seen_by, noted_flow, used_slot, used_port, after_port}
+use Rattle.nat_box.specs.Settings.{Settings, AreSettings}
+use Rattle.nat_box.specs.Nat.{goes, forward_table, reverse_table, class_of_flow, flow_in, class_in, flow_seen}
+use Rattle.nat_box.specs.Nat.{class_seen, seen_by, noted_flow, live_slot, live_port, after_port}
 use Rattle.flow_boxes.specs.Drops.{reason_of}
 use Rattle.nat_box.specs.Nat.{dropped, over_limit, after_find_within, after_bind_within, after_lost, touched_by}
 use Rattle.nat_box.specs.Nat.{begun_by, segment_told, followed_by, followed}
 use Rattle.nat_box.specs.Nat.{begun, mapped, after_find, after_reserve, after_bind, after_endpoint, looked_by}
 use Rattle.nat_box.specs.Nat.{looked, after_time, told, local_at, nat_meaning, MayMap, MayBind, Fits}
-use Rattle.nat_box.specs.Noting.{place_again, class_again, segment_again, IsNoted, is_noted, noted_again}
-use Rattle.nat_box.specs.Lawful.{AreSettings, var_of, touches_it, reads_it, nat_lawful}
+use Rattle.nat_box.specs.Noting.{place_again, class_again, packed_port_again, packed_segment_again, IsNoted}
+use Rattle.nat_box.specs.Noting.{is_noted, noted_again}
+use Rattle.nat_box.specs.Lawful.{var_of, touches_it, reads_it, nat_lawful}
 use Rattle.nat_box.specs.PortStanding.{free_at}
 use Rattle.nat_box.specs.Sentences.{Has, mappings_in, bound_in, IsMapping}
 use Rattle.nat_box.proofs.Noting.{touched_noted}
@@ -61,13 +64,13 @@ use Rattle.nat_box.proofs.Making.{goes_on}
 use Rattle.nat_box.proofs.Following.{slot_followed}
 use Rattle.nat_runs.specs.Classes.{IsFromInside, GoesInside}
 use Rattle.nat_runs.specs.Met.{Met, nothing_met, met_by_touch, met_by_read, met_by, met_of}
-use Rattle.nat_runs.specs.Causes.{IsUnbound, HasNoneUsed, FoundNoneUsed, Cause}
+use Rattle.nat_runs.specs.Causes.{IsUnbound, HasNoneLive, FoundNoneLive, Cause}
 use Rattle.nat_runs.proofs.TableEntries.{slot_in, endpoint_in, not_bound, AreIdle, lives_not, may_endpoint, may_mapping}
 use Rattle.nat_runs.proofs.TableEntries.{none_free}
 use Rattle.flow_boxes.proofs.Fitting.{slot_refreshed, slot_bound}
 use Rattle.nat_box.proofs.SeenAs.{flow_whole, same_flow, seen_flow}
-use Rattle.nat_box.proofs.UsedPorts.{unused_lives_not}
-use Rattle.nat_box.proofs.Emissions.{IsOutward, IsInward, IfOutward, worded, targeted, port_noted, small_used}
+use Rattle.nat_box.proofs.LivePorts.{none_lives}
+use Rattle.nat_box.proofs.Emissions.{IsOutward, IsInward, IfOutward, worded, targeted, port_noted, small_live}
 use Rattle.nat_runs.proofs.Within.{by_find, by_bind, full_has, found_none, count_followed, none_followed_there}
 use Rattle.nat_runs.proofs.Within.{mapped_ports}
 use Rattle.nat_runs.proofs.ThreadMoves.{TouchKind, finds, unbinds_freed, gives_freed, reserves, binds, finds_or_binds}
@@ -94,7 +97,7 @@ IsOnWay s m p n = IsBase s p n × (m.clock ≡ Some n.time) × IsOutward n.class
 -- its source had no mapping that is not idle
 abbrev pub WasUnmapped : Settings → Met → Noted → Type 0
 WasUnmapped s m n =
-    (value : ℕ → NatValue) × (m.at_touch ≡ Some value) × ((port : ℕ) → HasNoneUsed s value n.source port n.time)
+    (value : ℕ → NatValue) × (m.at_touch ≡ Some value) × ((port : ℕ) → HasNoneLive s value n.source port n.time)
 
 -- and it takes a port for it
 abbrev pub IsWanting : Settings → Met → Packet → Noted → Type 0
@@ -113,7 +116,7 @@ IsRefused s m n =
 
 -- it gives back the port that it bound: its source has another, or may have none, and then its port is 0
 abbrev pub HasLost : Settings → Met → Noted → Type 0
-HasLost s m n = (Refreshed m n × (1 ≤ n.port)) ⊎ (IsRefused s m n × (n.port ≡ 0))
+HasLost s m n = (Refreshed m n × (1 ≤ n.port)) ⊎ (IsRefused s m n × (n.port ≡ no_port))
 
 abbrev pub IsBoundTo : Met → Noted → Type 0
 IsBoundTo m n =
@@ -121,7 +124,7 @@ IsBoundTo m n =
     × Has (bound_in (value v)) (dest_key n, key) × (n.target ≡ endpoint n.source.protocol key.address key.port)
 
 abbrev pub IsToCount : Settings → Met → Packet → Noted → Type 0
-IsToCount s m p n = (1 ≤ n.word) × (n.word ≤ 10) × (AreBytes p.bytes → Cause s p m n.word)
+IsToCount s m p n = (1 ≤ drop_reason n) × (drop_reason n ≤ 10) × (AreBytes p.bytes → Cause s p m (drop_reason n))
 
 abbrev pub KnownAt : Settings → Met → Packet → Place → Noted → Type 0
 KnownAt s m p HearsTime n = IsBase s p n
@@ -189,7 +192,7 @@ looked_noted s v _ _ n (asks es) fits is = by (lives n.target n.dest_port n.time
     by true = is
     by false = worded n 7 is
 looked_noted s v _ _ n (finds_port es) fits is =
-    port_noted n (used_port n.source n.time es) is (small_used s v n.source n.time es fits.2)
+    port_noted n (live_port n.source n.time es) is (small_live s v n.source n.time es fits.2)
 
 -- The variable of an entry
 
@@ -318,14 +321,14 @@ module _ (s : Settings) (p : Packet) where
     )
 
     -- where it has no mapping that is not idle, it had none when the packet touched the table
-    module _ (unmapped : used_port n.source n.time es ≡ None → WasUnmapped s m n) where
+    module _ (unmapped : live_port n.source n.time es ≡ None → WasUnmapped s m n) where
       there_known : (slot : Slot) (idle : Bool) → slot_of n.source es ≡ Some slot
           → is_idle n.time (n.source, slot) ≡ idle
           → (let f = found_there n.source n.time es slot idle in
           KnownAt s (leaving f.1) p (after_find n f.0).place (after_find n f.0).noted)
       there_known slot true is q =
-          let none : used_port n.source n.time es ≡ None =
-          ap (used_slot n.source n.time) is ∙ ap (λ (b : Bool). if b then None else Some slot.port) q in
+          let none : live_port n.source n.time es ≡ None =
+          ap (live_slot n.source n.time) is ∙ ap (λ (b : Bool). if b then None else Some slot.port) q in
           ((base_on n (record n { freed = port_of (n.source, slot) }) refl refl refl refl k.0, k.1, k.2), unmapped none)
       there_known slot false is q =
           let o : Noted = record n { port = slot.port } in
@@ -338,9 +341,9 @@ module _ (s : Settings) (p : Packet) where
       found_known (Some slot) b is = there_known slot (is_idle n.time (n.source, slot)) is refl
       found_known None (Some gone) is = (
         (base_on n (record n { freed = port_of gone }) refl refl refl refl k.0, k.1, k.2),
-        unmapped (ap (used_slot n.source n.time) is),
+        unmapped (ap (live_slot n.source n.time) is),
       )
-      found_known None None is = (k, unmapped (ap (used_slot n.source n.time) is))
+      found_known None None is = (k, unmapped (ap (live_slot n.source n.time) is))
 
     bound_known : (a : Option Slot) → slot_of n.source es ≡ a
         → ((slot : Slot) → slot_of n.source es ≡ Some slot → 1 ≤ slot.port)
@@ -434,7 +437,7 @@ module _ (s : Settings) (p : Packet) where
   left_by_followed m c u es FindsPort n is k = absurd is
 
   too_many : (m : Met) (n : Noted) → IsOnWay s m p n → IsRefused s m n
-      → IsToCount s m p (record n { word = over_limit })
+      → IsToCount s m p (record n { word_or_reason = over_limit })
   too_many m n k r = (omega arith, omega arith, cause)
     where
       cause : AreBytes p.bytes → Cause s p m over_limit
@@ -452,14 +455,14 @@ module _ (s : Settings) (p : Packet) where
       )))))
 
   lost_known : (m : Met) (n : Noted) → IsOnWay s m p n → HasLost s m n
-      → (let g = after_lost n (n.port == 0) in KnownAt s m p g.place g.noted)
+      → (let g = after_lost n (is_refused n) in KnownAt s m p g.place g.noted)
   lost_known m n k (inl r) =
       let some : 1 ≤ n.port = r.1 in
-      let other : (n.port == 0) ≡ false = grind (arith, nat_tests) in
+      let other : (is_refused n) ≡ false = grind (arith, nat_tests) in
       rw other (mapped_known m n n.class refl k r.0)
   lost_known m n k (inr r) =
-      let none : n.port ≡ 0 = r.1 in
-      let same : (n.port == 0) ≡ true = grind (arith, nat_tests) in
+      let none : n.port ≡ no_port = r.1 in
+      let same : (is_refused n) ≡ true = grind (arith, nat_tests) in
       rw same (too_many m n k r.0)
 
   -- where hosts have a limit
@@ -504,18 +507,18 @@ module _ (s : Settings) (p : Packet) where
   module _ (value : ℕ → NatValue) (fits : (v : ℕ) → v < 2 + 2 * s.shards → Fits s v (value v))
       (ports : (v : ℕ) (e : Endpoint × Slot) → IsMapping s value v e → 1 ≤ e.1.port) where
     -- where the endpoint's own table has none that is not idle, no table has
-    none_used : (n : Noted) (w : ℕ) (es : Forwards) → value w ≡ Mapped es → w < 2 + 2 * s.shards
-        → forward_table s n.source ≡ w → used_port n.source n.time es ≡ None
-        → (port : ℕ) → HasNoneUsed s value n.source port n.time
-    none_used n w es is low at e port v slot h to =
+    none_live : (n : Noted) (w : ℕ) (es : Forwards) → value w ≡ Mapped es → w < 2 + 2 * s.shards
+        → forward_table s n.source ≡ w → live_port n.source n.time es ≡ None
+        → (port : ℕ) → HasNoneLive s value n.source port n.time
+    none_live n w es is low at e port v slot h to =
         let there : v ≡ w = mapping_at s v (value v) n.source slot (fits v h.0) h.1 ∙ at in
         let idle : AreIdle es n.source port n.time =
         lives_not (MayMap s w) n.source port n.time es (subst (Fits s w) is (fits w low)).2
-        (unused_lives_not n.source n.time es e port) in
+        (none_lives n.source n.time es e port) in
         idle slot (subst (λ (x : NatValue). Has (mappings_in x) (n.source, slot)) (ap value there ∙ is) h.1) to
 
     none_anywhere : (n : Noted) (pool : PoolPorts) (w : ℕ) → value w ≡ Free pool → 1 ≡ w
-        → (reserve n.source.protocol n.source.port n.word pool).0 ≡ None → (v port : ℕ) → v < 2 + 2 * s.shards
+        → (reserve n.source.protocol n.source.port (drawn_word n) pool).0 ≡ None → (v port : ℕ) → v < 2 + 2 * s.shards
         → free_at (port_key n.source.protocol port) (value v) ≡ 0
     none_anywhere n pool w is at e v port below = by (is_or v 1)
       where
@@ -523,11 +526,11 @@ module _ (s : Settings) (p : Packet) where
         by (inl q) =
             ap (λ (u : ℕ). free_at (port_key n.source.protocol port) (value u)) (q ∙ at)
             ∙ ap (free_at (port_key n.source.protocol port)) is
-            ∙ none_free n.source.protocol n.source.port n.word pool e port
+            ∙ none_free n.source.protocol n.source.port (drawn_word n) pool e port
         by (inr q) = free_elsewhere s v (value v) (port_key n.source.protocol port) (fits v below) q
 
     reserved_known : (m : Met) (n : Noted) (pool : PoolPorts) (w : ℕ) (o : Option ℕ) → value w ≡ Free pool → 1 ≡ w
-        → (reserve n.source.protocol n.source.port n.word pool).0 ≡ o → IsWanting s m p n
+        → (reserve n.source.protocol n.source.port (drawn_word n) pool).0 ≡ o → IsWanting s m p n
         → KnownAt s (record m { at_pool = Some value }) p (after_reserve n o).place (after_reserve n o).noted
     reserved_known m n pool w (Some port) is at e k =
         (base_on n (record n { port = port }) refl refl refl refl k.0.0, k.0.1, k.0.2)
@@ -543,7 +546,7 @@ module _ (s : Settings) (p : Packet) where
             n.time,
             k.1.1,
             k.0.1,
-            subst (λ (key : Endpoint). (port : ℕ) → HasNoneUsed s k.1.0 key port n.time) (k.0.0.source bytes) k.1.2,
+            subst (λ (key : Endpoint). (port : ℕ) → HasNoneLive s k.1.0 key port n.time) (k.0.0.source bytes) k.1.2,
           ),
           value,
           refl,
@@ -566,15 +569,15 @@ module _ (s : Settings) (p : Packet) where
         let f = found n.source n.time es (slot_of n.source es) (first_idle n.time es) in
         let q : Met = record m { at_touch = Some value } in
         left_by_followed q s.closing n f.1 (after_find n f.0).place (after_find n f.0).noted (find_place n f.0)
-        (found_known q n es k (λ e. (value, refl, none_used n w es is low at e)) (slot_of n.source es)
+        (found_known q n es k (λ e. (value, refl, none_live n w es is low at e)) (slot_of n.source es)
         (first_idle n.time es) refl)
     touch_known m w _ _ n (Some most) limit is low (finds es) at k =
         let a : Option Slot = slot_of n.source es in
         let b : Option (Endpoint × Slot) = first_idle n.time es in
         let f = found n.source n.time es a b in
         let q : Met = record m { at_touch = Some value } in
-        let unmapped : used_port n.source n.time es ≡ None → WasUnmapped s q n =
-        (λ e. (value, refl, none_used n w es is low at e)) in
+        let unmapped : live_port n.source n.time es ≡ None → WasUnmapped s q n =
+        (λ e. (value, refl, none_live n w es is low at e)) in
         by_find most n.source n.time es
         (λ (r : Find × Forwards).
         let g = after_find_within most n r.0 r.1 in
@@ -583,18 +586,18 @@ module _ (s : Settings) (p : Packet) where
         (found_known q n es k unmapped a b refl))
         (λ e none idle. (
           (base_on n (record n { freed = port_of e }) refl refl refl refl k.0, k.1, k.2),
-          unmapped (ap (used_slot n.source n.time) none),
+          unmapped (ap (live_slot n.source n.time) none),
         ))
         (λ none full.
-        within_known q n most limit k (Absent None) es (λ e. none) (k, unmapped (ap (used_slot n.source n.time) none)))
+        within_known q n most limit k (Absent None) es (λ e. none) (k, unmapped (ap (live_slot n.source n.time) none)))
     touch_known m w _ _ n None limit is low (unbinds_freed bs) at k = k
     touch_known m w _ _ n (Some most) limit is low (unbinds_freed bs) at k = k
     touch_known m w _ _ n None limit is low (gives_freed pool) at k = k
     touch_known m w _ _ n (Some most) limit is low (gives_freed pool) at k = k
     touch_known m w _ _ n None limit is low (reserves pool) at k =
-        reserved_known m n pool w (reserve n.source.protocol n.source.port n.word pool).0 is at refl k
+        reserved_known m n pool w (reserve n.source.protocol n.source.port (drawn_word n) pool).0 is at refl k
     touch_known m w _ _ n (Some most) limit is low (reserves pool) at k =
-        reserved_known m n pool w (reserve n.source.protocol n.source.port n.word pool).0 is at refl k
+        reserved_known m n pool w (reserve n.source.protocol n.source.port (drawn_word n) pool).0 is at refl k
     touch_known m w _ _ n None limit is low (binds bs) at k = k
     touch_known m w _ _ n (Some most) limit is low (binds bs) at k = k
     touch_known m w _ _ n None limit is low (finds_or_binds es) at k =
@@ -674,7 +677,7 @@ module _ (s : Settings) (p : Packet) where
         idle =
             lives_not (MayMap s w) n.target n.dest_port n.time es (subst (Fits s w) is (fits w low)).2 e
 
-        none : HasNoneUsed s value n.target n.dest_port n.time
+        none : HasNoneLive s value n.target n.dest_port n.time
         none v slot h port =
             let there : v ≡ w = mapping_at s v (value v) n.target slot (fits v h.0) h.1 ∙ at in
             idle slot (subst (λ (x : NatValue). Has (mappings_in x) (n.target, slot)) (ap value there ∙ is) h.1) port
@@ -687,11 +690,11 @@ module _ (s : Settings) (p : Packet) where
             ap (λ (q : Endpoint). q.protocol) (base.source bytes) in
             let target : n.target ≡ endpoint base.flow.protocol to.2.address to.2.port =
             to.5 ∙ ap (λ (q : ℕ). endpoint q to.2.address to.2.port) protocol in
-            let there : HasNoneUsed s value (endpoint base.flow.protocol to.2.address to.2.port) base.flow.dest_port
+            let there : HasNoneLive s value (endpoint base.flow.protocol to.2.address to.2.port) base.flow.dest_port
             n.time =
-            subst (λ (port : ℕ). HasNoneUsed s value (endpoint base.flow.protocol to.2.address to.2.port) port n.time)
-            (base.dest_port bytes) (subst (λ (q : Endpoint). HasNoneUsed s value q n.dest_port n.time) target none) in
-            let found : FoundNoneUsed s base.flow (record m { at_forward = Some value }) to.0 = (
+            subst (λ (port : ℕ). HasNoneLive s value (endpoint base.flow.protocol to.2.address to.2.port) port n.time)
+            (base.dest_port bytes) (subst (λ (q : Endpoint). HasNoneLive s value q n.dest_port n.time) target none) in
+            let found : FoundNoneLive s base.flow (record m { at_forward = Some value }) to.0 = (
               to.1,
               to.2,
               subst (λ (q : PortKey). Has (bound_in (to.0 to.1)) (q, to.2)) (same_port_key n base bytes) to.4,
@@ -704,7 +707,7 @@ module _ (s : Settings) (p : Packet) where
             inr (inr (inr (inl (base.flow, base.seen, goes_inside s p n base k.1, to.0, to.3, inr found, refl))))
 
     port_known : (m : Met) (n : Noted) (w : ℕ) (es : Forwards) (o : Option ℕ) → value w ≡ Mapped es
-        → w < 2 + 2 * s.shards → forward_table s n.source ≡ w → used_port n.source n.time es ≡ o
+        → w < 2 + 2 * s.shards → forward_table s n.source ≡ w → live_port n.source n.time es ≡ o
         → KnownAt s m p FindsPort n
         → KnownAt s (record m { at_forward = Some value }) p (after_port n o).place (after_port n o).noted
     port_known m n w es (Some port) is low at e k =
@@ -725,8 +728,8 @@ module _ (s : Settings) (p : Packet) where
               n.time,
               refl,
               k.0.1,
-              subst (λ (key : Endpoint). (port : ℕ) → HasNoneUsed s value key port n.time) (base.source bytes)
-                  (none_used n w es is low at e),
+              subst (λ (key : Endpoint). (port : ℕ) → HasNoneLive s value key port n.time) (base.source bytes)
+                  (none_live n w es is low at e),
               refl,
             )))))
 
@@ -738,7 +741,7 @@ module _ (s : Settings) (p : Packet) where
     look_known m w _ _ n is (asks es) low at k =
         lives_known m n w es (lives n.target n.dest_port n.time es) is low at refl k
     look_known m w _ _ n is (finds_port es) low at k =
-        port_known m n w es (used_port n.source n.time es) is low at refl k
+        port_known m n w es (live_port n.source n.time es) is low at refl k
 
   time_known : (m : Met) (n : Noted) (c : Class) → n.class ≡ c → IsBase s p n → m.clock ≡ Some n.time
       → KnownAt s m p (after_time n c).place (after_time n c).noted
@@ -789,17 +792,11 @@ module _ (s : Settings) (p : Packet) where
       low : AreBytes p.bytes → flow.dest_port < 2 ^ 16
       low bytes = (flow_whole s p flow seen bytes).dest_port
 
-      dest_port : AreBytes p.bytes
-          → (flow.dest_port + 2 ^ 16 * number_of_segment told) % 2 ^ 16 ≡ flow.dest_port
-      dest_port bytes = let b = low bytes in omega arith
+      dest_port : AreBytes p.bytes → packed_port (packed flow.dest_port told) ≡ flow.dest_port
+      dest_port bytes = packed_port_again flow.dest_port told (low bytes)
 
-      segment : AreBytes p.bytes
-          → segment_numbered ((flow.dest_port + 2 ^ 16 * number_of_segment told) / 2 ^ 16) ≡ told
-      segment bytes =
-          let b = low bytes in
-          let above : (flow.dest_port + 2 ^ 16 * number_of_segment told) / 2 ^ 16 ≡ number_of_segment told =
-          omega arith in
-          ap segment_numbered above ∙ segment_again told
+      segment : AreBytes p.bytes → packed_segment (packed flow.dest_port told) ≡ told
+      segment bytes = packed_segment_again flow.dest_port told (low bytes)
 
   begun_known : Known s nothing_met (Some (record { packet = p; place = local_at (begun s (seen_by s p)) }))
   begun_known = by (flow_seen s p) (class_seen s p) refl refl
@@ -835,7 +832,7 @@ module _ (s : Settings) (is : AreSettings s) (packets : List Packet) (value : �
       → Known s m (goes_on h (told place a (noted h.place)))
   told_word h a place q k =
       let n : Noted = noted h.place in
-      let o : Noted = record n { word = a } in
+      let o : Noted = record n { word_or_reason = a } in
       let on : IsWanting s m h.packet n = subst (λ (z : Place). KnownAt s m h.packet z n) q k in
       subst (λ (z : Place). Known s m (goes_on h (told z a n))) (sym q)
       (known_on s m h (goes ReservesPort o) (worded n a (is_noted h.place))

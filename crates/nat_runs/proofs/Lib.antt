@@ -8,7 +8,7 @@ pub mod GivingWay
 pub mod NewPorts
 pub mod Staying
 pub mod Following
-pub mod Used
+pub mod Live
 pub mod Inbound
 pub mod DropCounts
 pub mod Causes

@@ -30,9 +30,9 @@ use Rattle.nat_box.specs.declared.seeing.Seen.{Seen}
 use Rattle.nat_box.specs.declared.seeing.Seen.TheVariants.{OfFlow, OfError, OfNeither}
 use Rattle.nat_box.specs.declared.value.NatValue.{NatValue}
 use Rattle.nat_box.specs.declared.value.NatValue.TheVariants.{Mapped}
-use Rattle.nat_box.specs.Nat.{Settings, is_inside, class_of_flow, class_of_error, flow_of_error, error_in, error_or}
+use Rattle.nat_box.specs.Settings.{Settings, AreSettings}
+use Rattle.nat_box.specs.Nat.{is_inside, class_of_flow, class_of_error, flow_of_error, error_in, error_or}
 use Rattle.nat_box.specs.Nat.{seen_as, seen_by, flow_in, class_in, flow_seen, class_seen, nat_meaning}
-use Rattle.nat_box.specs.Lawful.{AreSettings}
 use Rattle.nat_box.specs.Sentences.{Has, mappings_in}
 use Rattle.nat_box.specs.Emissions.{Trail, trail_by, trail_by_what, trail_of, Lived, IsTranslated, IsTranslationOf}
 use Rattle.nat_box.proofs.Emissions.{emissions_translate}
@@ -114,11 +114,11 @@ pub record AreSmall (error : IcmpError) : Type 0 where
   pub dest : error.dest < 2 ^ 32
   pub quoted_dest : error.quoted_dest < 2 ^ 32
 
-module _ (s : Settings) (is : AreSettings s) (small : s.inside < 2 ^ 32) where
+module _ (s : Settings) (is : AreSettings s) where
   not_in_network : (address : ℕ) → address < 2 ^ 32 → is_inside s address ≡ false → IsOfNetwork s address → ⊥
   not_in_network address low outside bits =
       differs (address / 2 ^ (32 - s.length)) (s.inside / 2 ^ (32 - s.length)) outside
-      (same_quotients address s.inside s.length (32 - s.length) (omega (arith, is.short)) low small bits)
+      (same_quotients address s.inside s.length (32 - s.length) (omega (arith, is.short)) low is.inside bits)
 
   flow_class : (source dest : ℕ) → source < 2 ^ 32 → dest < 2 ^ 32 → (c : Class)
       → class_of_flow s source dest ≡ Some c → FlowOf s source dest c
@@ -272,7 +272,7 @@ error_small p error bytes seen = subst AreSmall (error_read p.bytes p.original e
   quoted_dest = long_fits p.bytes (quoted_at p.bytes + 16) bytes;
 })
 
-module _ (s : Settings) (is : AreSettings s) (small : s.inside < 2 ^ 32) (p : Packet) (bytes : AreBytes p.bytes) where
+module _ (s : Settings) (is : AreSettings s) (p : Packet) (bytes : AreBytes p.bytes) where
   -- what the box has a class for is of it, and what it has none for is of none
 
   flow_needs : (flow : Flow) (c : Class) → FlowOf s flow.source flow.dest c → (c ≡ Outbound → ⊥)
@@ -294,11 +294,11 @@ module _ (s : Settings) (is : AreSettings s) (small : s.inside < 2 ^ 32) (p : Pa
       by : SeenFlow s p ⊎ (SeenError s p ⊎ SeenNeither s p) → NeedsMapping s p
       by (inl (flow, q, seen)) =
           let low = flow_small s p flow bytes seen in
-          let class = flow_class s is small flow.source flow.dest low.0 low.1 c (sym (ap (class_in s) seen) ∙ e) in
+          let class = flow_class s is flow.source flow.dest low.0 low.1 c (sym (ap (class_in s) seen) ∙ e) in
           inl (flow, q, flow_needs flow c class inward)
       by (inr (inl (error, there, seen))) =
           let low = error_small p error bytes there.1 in
-          let class = error_class s is small error low c (sym (ap (class_in s) seen) ∙ e) in
+          let class = error_class s is error low c (sym (ap (class_in s) seen) ∙ e) in
           inr (error, there, error_needs error c class)
       by (inr (inr (answer, neither, seen))) =
           let none : None ≡ Some c = sym (ap (class_in s) seen) ∙ e in absurd (cc)
@@ -310,8 +310,8 @@ module _ (s : Settings) (is : AreSettings s) (small : s.inside < 2 ^ 32) (p : Pa
       low = flow_small s p flow bytes (ap (seen_as s p.bytes p.original) q)
 
       by : IsFromInside s flow → GoesOut s flow.source flow.dest ⊎ GoesRound s flow.source flow.dest
-      by (inl e) = inl (flow_class s is small flow.source flow.dest low.0 low.1 Outbound e)
-      by (inr e) = inr (flow_class s is small flow.source flow.dest low.0 low.1 Hairpin e)
+      by (inl e) = inl (flow_class s is flow.source flow.dest low.0 low.1 Outbound e)
+      by (inr e) = inr (flow_class s is flow.source flow.dest low.0 low.1 Hairpin e)
 
   of_no_class : (flow : Flow) → flow_seen s p ≡ Ok flow → class_seen s p ≡ None → IsOfNoClass s p
   of_no_class own there e = by (seen_is s p)
@@ -319,12 +319,12 @@ module _ (s : Settings) (is : AreSettings s) (small : s.inside < 2 ^ 32) (p : Pa
       by : SeenFlow s p ⊎ (SeenError s p ⊎ SeenNeither s p) → IsOfNoClass s p
       by (inl (flow, q, seen)) =
           let low = flow_small s p flow bytes seen in
-          inl (flow, q, flow_no_class s is small flow.source flow.dest low.0 low.1 (sym (ap (class_in s) seen) ∙ e))
+          inl (flow, q, flow_no_class s is flow.source flow.dest low.0 low.1 (sym (ap (class_in s) seen) ∙ e))
       by (inr (inl (error, thus, seen))) =
           inr (
             error,
             thus,
-            error_no_class s is small error (error_small p error bytes thus.1)
+            error_no_class s is error (error_small p error bytes thus.1)
                 (sym (ap (class_in s) seen) ∙ e),
           )
       by (inr (inr (answer, neither, seen))) =
@@ -361,7 +361,7 @@ module _ (s : Settings) (is : AreSettings s) (small : s.inside < 2 ^ 32) (p : Pa
       inr (inl (needs_own many.0 many.1 many.2, inr many.9))
 
 pub counted_by_class : CountedByClass
-counted_by_class s threads inputs x earlier entry left place is small bytes h act what =
+counted_by_class s threads inputs x earlier entry left place is bytes h act what =
     let c = drops_have_causes s threads inputs x earlier entry left place is bytes h act what in
     let taken = (thread_after earlier x.thread).taken in
     let held : IsHeld (inputs x.thread) taken (Some c.0) =
@@ -372,7 +372,7 @@ counted_by_class s threads inputs x earlier entry left place is small bytes h ac
       c.3,
       c.4,
       c.5,
-      counted_as s is small c.0.packet (bytes x.thread (taken - 1) c.0.packet held.1) (met_of s x.thread earlier) c.2
+      counted_as s is c.0.packet (bytes x.thread (taken - 1) c.0.packet held.1) (met_of s x.thread earlier) c.2
           c.6,
     )
 
@@ -455,7 +455,7 @@ lived_reaches s r key port reach (es, now, read, clock, lives) =
 
 -- What is sent out
 
-module _ (s : Settings) (is : AreSettings s) (small : s.inside < 2 ^ 32) (r : Trail) (reach : Reaches s r) (p : Packet)
+module _ (s : Settings) (is : AreSettings s) (r : Trail) (reach : Reaches s r) (p : Packet)
     (bytes : AreBytes p.bytes) (sent : List ℕ) where
   flow_sent : (flow : Flow) (c : Class) → IsFlow p flow → FlowOf s flow.source flow.dest c
       → IsTranslated s p.bytes (OfFlow flow) r sent c → IsSentByClass s sent (Some p)
@@ -490,17 +490,17 @@ module _ (s : Settings) (is : AreSettings s) (small : s.inside < 2 ^ 32) (r : Tr
       by (inl (flow, q, seen)) =
           let low = flow_small s p flow bytes seen in
           flow_sent flow c q
-          (flow_class s is small flow.source flow.dest low.0 low.1 c (sym (ap (class_in s) seen) ∙ e))
+          (flow_class s is flow.source flow.dest low.0 low.1 c (sym (ap (class_in s) seen) ∙ e))
           (subst (λ (z : Seen). IsTranslated s p.bytes z r sent c) seen done)
       by (inr (inl (error, there, seen))) =
           error_sent error c there
-          (error_class s is small error (error_small p error bytes there.1) c (sym (ap (class_in s) seen) ∙ e))
+          (error_class s is error (error_small p error bytes there.1) c (sym (ap (class_in s) seen) ∙ e))
           (subst (λ (z : Seen). IsTranslated s p.bytes z r sent c) seen done)
       by (inr (inr (answer, neither, seen))) =
           let none : None ≡ Some c = sym (ap (class_in s) seen) ∙ e in absurd (cc)
 
 pub sent_by_class : SentByClass
-sent_by_class s threads inputs x earlier o is small bytes h sent =
+sent_by_class s threads inputs x earlier o is bytes h sent =
     by (slice_get (inputs x.thread) (o.input - 1)) refl
     (emissions_translate s threads inputs x earlier o is bytes h sent).1
   where
@@ -511,5 +511,5 @@ sent_by_class s threads inputs x earlier o is small bytes h sent =
         → IsTranslationOf s r o.packet.bytes input → IsSentByClass s o.packet.bytes input
     by None q done = absurd done
     by (Some p) q (c, e, done) =
-        sent_by s is small r (read_reaches s threads inputs earlier is bytes h.1 x.thread) p
+        sent_by s is r (read_reaches s threads inputs earlier is bytes h.1 x.thread) p
         (bytes x.thread (o.input - 1) p q) o.packet.bytes c e done

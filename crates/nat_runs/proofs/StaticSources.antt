@@ -31,7 +31,7 @@ use Rattle.nat_tables.specs.Hosts.{found_within, find_within}
 use Rattle.flow_boxes.specs.Drops.{no_drops}
 use Rattle.flow_boxes.specs.Flows.{source_of}
 use Rattle.flow_boxes.proofs.HeldInputs.{IsHeld, run_holds}
-use Rattle.nat_box.specs.declared.nat.StaticPort.{StaticPort}
+use Rattle.nat_box.specs.declared.settings.StaticPort.{StaticPort}
 use Rattle.nat_box.specs.declared.place.Place.{Place}
 use Rattle.nat_box.specs.declared.place.Place.TheVariants.{HearsTime, FindsMapping, UnbindsFreed, GivesBackFreed}
 use Rattle.nat_box.specs.declared.place.Place.TheVariants.{DrawsWord, ReservesPort, BindsPort, FindsOrBinds}
@@ -46,12 +46,13 @@ use Rattle.nat_box.specs.declared.value.NatValue.TheVariants.{Dropped, Free, Map
 use Rattle.nat_box.specs.Places.{place_numbered, noted}
 use Rattle.nat_box.specs.Noting.{place_again}
 use Rattle.nat_box.specs.Statics.{inside_of, outside_of, static_port, kept, outside_ports, IsStatic}
-use Rattle.nat_box.specs.Nat.{Settings, forward_table, reverse_table, flow_seen, class_seen, begun_by, mapped}
+use Rattle.nat_box.specs.Settings.{Settings, AreSettings}
+use Rattle.nat_box.specs.Nat.{forward_table, reverse_table, flow_seen, class_seen, begun_by, mapped}
 use Rattle.nat_box.specs.Nat.{after_find}
 use Rattle.nat_box.specs.Nat.{after_find_within, touched_by, followed, looked, told, after_time, local_at, nat_meaning}
 use Rattle.nat_box.specs.Nat.{kept_mappings}
 use Rattle.nat_box.specs.Nat.{kept_bound, Fits}
-use Rattle.nat_box.specs.Lawful.{AreSettings, var_of, touches_it, nat_lawful}
+use Rattle.nat_box.specs.Lawful.{var_of, touches_it, nat_lawful}
 use Rattle.nat_box.specs.Sentences.{Has, mappings_in, bound_in}
 use Rattle.nat_box.proofs.Making.{goes_on, comes_to}
 use Rattle.nat_box.proofs.SeenAs.{same_flow, flow_is_seen, class_is_seen}
