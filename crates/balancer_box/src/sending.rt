@@ -144,7 +144,11 @@ impl BalancerBox {
     fn backend(&self, number: u16) -> Option<Backend>
         ensures { result ≡ slice_get self.now.settings.backends number }
     {
-        self.settings.backends.as_slice().get(usize::from(number)).copied()
+        self.settings
+            .backends
+            .as_slice()
+            .get(usize::from(number))
+            .copied()
     }
 
     /// Translates a flow's frame (RFC 3022, section 4.1): a client's frame goes to its backend, and an answer comes

@@ -71,7 +71,10 @@ impl NatBox {
     pub(crate) fn class_of_error(&self, error: &IcmpError) -> Option<Class>
         ensures { result ≡ class_of_error self.now.settings error.now }
     {
-        match (self.is_inside(error.source), error.dest == self.settings.outside) {
+        match (
+            self.is_inside(error.source),
+            error.dest == self.settings.outside,
+        ) {
             (true, false) if self.is_inside(error.dest) => None,
             (true, false) if self.is_inside(error.quoted_dest) => Some(Class::OutboundError),
             (false, true) if error.quoted_source == self.settings.outside => Some(Class::Inbound),

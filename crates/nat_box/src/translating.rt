@@ -161,7 +161,12 @@ impl NatBox {
         let target = &noted.target;
         match noted.class {
             Class::Inbound => set_quoted_source(frame, error, target.address, target.port),
-            Class::OutboundError => set_quoted_dest(frame, error, self.settings.outside, noted.port),
+            Class::OutboundError => set_quoted_dest(
+                frame,
+                error,
+                self.settings.outside,
+                noted.port,
+            ),
             Class::Outbound | Class::Hairpin => {}
         }
     }

@@ -27,14 +27,7 @@ pub const ALL: [(Which, u64); 4] = [
 
 /// A NAT in front of 10.0.0.0/8, with two tables of each kind. Its ports are none to which a packet goes from outside.
 pub fn nat() -> NatBox {
-    NatBox::new(NatSettings::basic(
-        2,
-        0x0a00_0000,
-        8,
-        0xcb00_7101,
-        40_000,
-        41_023,
-    ))
+    NatBox::new(NatSettings::basic(2, 0x0a00_0000, 8, 0xcb00_7101, 40_000, 41_023))
 }
 
 /// A balancer before the server that the queries go to, with two backends.
