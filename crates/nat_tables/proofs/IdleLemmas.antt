@@ -161,7 +161,7 @@ none_found start now times rows live from at past =
     ⊎_elim (λ inside. not_idle now (time_at times at) (row_at rows at) (live.each at inside) (from at past))
     (λ past. rw (row_past rows at past) refl) (cases_lt at (length rows))
 
-idle_inside : (now : ℕ) (rows : List Row) (at : ℕ) → row_is_idle now (row_at rows at) ≡ true → at < length rows
+pub idle_inside : (now : ℕ) (rows : List Row) (at : ℕ) → row_is_idle now (row_at rows at) ≡ true → at < length rows
 idle_inside now [] at idle = absurd (cc)
 idle_inside now (row ∷ rows) zero idle = omega arith
 idle_inside now (row ∷ rows) (suc at) idle = let h = idle_inside now rows at idle in omega arith

@@ -1,10 +1,15 @@
 -- The first time before another, by that of the pairs.
 use Rattle.std.proofs.Common.{◌≡◌, ◌==◌, ℕ, ◌+◌, ◌*◌, ◌/◌, ◌%◌, ◌<◌, ◌≤◌, Bool, true, false, List, length, refl, sym}
 use Rattle.std.proofs.Common.{subst, arith, ⊎_elim}
+use Rattle.std.specs.Prelude.{nat_lt}
 use Rattle.std.proofs.lemmas.Bool.{eqb-true, cases_lt}
 use Rattle.std.proofs.lemmas.Bool.Decides.{nat_tests}
 use Rattle.std.proofs.lemmas.List.{get_or_past}
 use Rattle.nat_tables.specs.Times.{never, time_at, ArePairs, AreFrom, IsFirstBefore}
+
+-- a time that is found not to be before another is from this one on
+pub not_before : (now time found : ℕ) → found ≡ time → nat_lt found now ≡ false → now ≤ time
+not_before now time found is before = let from : now ≤ found = grind (arith, nat_tests) in omega (arith, is, from)
 
 -- where a pair is from a time on, so are both of its times
 left_from : (now pair : ℕ) (pairs times : List ℕ) → ArePairs pairs times → now ≤ time_at pairs pair
@@ -43,29 +48,6 @@ pub from_pairs : (start now : ℕ) (pairs times : List ℕ) → ArePairs pairs t
     → AreFrom (next_pair start) now pairs → AreFrom start now times
 from_pairs start now pairs times are own from at past =
     past_one start now at pairs times are own past (λ far. from (at / 2) far)
-
--- it stands at the index itself
-pub first_here : (start now : ℕ) (times : List ℕ) → now ≤ never → time_at times start < now
-    → IsFirstBefore start now times start
-first_here start now times fits before = record {
-  from = omega arith;
-  inside = ⊎_elim (λ h. h)
-      (λ past. absurd (let end = get_or_past times start never past in omega (arith, before, end, fits)))
-      (cases_lt start (length times));
-  before = before;
-  others = λ k past less. absurd (omega (arith, past, less));
-}
-
--- there is at most one time, and it is not at the index, or not before
-pub from_alone : (start now : ℕ) (times : List ℕ) → now ≤ never → length times ≤ 1 → now ≤ time_at times start
-    → AreFrom start now times
-from_alone start now times fits alone own at past = by (at == start) refl
-  where
-    by : (b : Bool) → (at == start) ≡ b → now ≤ time_at times at
-    by true e = subst (λ (x : ℕ). now ≤ time_at times x) (sym (eqb-true _ _ e)) own
-    by false e =
-        let further : length times ≤ at = grind (arith, nat_tests) in
-        let end = get_or_past times at never further in omega (arith, end, fits)
 
 first_left : (start now pair : ℕ) (pairs times : List ℕ) → ArePairs pairs times → now ≤ time_at times start
     → IsFirstBefore (next_pair start) now pairs pair → time_at times (2 * pair) < now
