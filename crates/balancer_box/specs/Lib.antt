@@ -4,6 +4,7 @@ pub mod Connections
 pub mod Places
 pub mod Balancer
 pub mod Noting
+pub mod Ranks
 pub mod Lawful
 pub mod Shown
 pub mod Boxes

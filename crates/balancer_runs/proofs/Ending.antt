@@ -1,6 +1,6 @@
 -- How connections end.
-use Rattle.std.proofs.Common.{◌≡◌, ℕ, Bool, true, false, List, refl, sym, ap, ◌∙◌, subst}
-use Rattle.std.proofs.Common.{◌⊎◌, inl, inr, arith, Option, Some, None}
+use Rattle.std.proofs.Common.{◌≡◌, ℕ, Bool, true, false, List, refl, sym, ap, ◌∙◌, subst, ◌⊎◌, inl, inr, arith, Option}
+use Rattle.std.proofs.Common.{Some, None}
 use Rattle.std.specs.Prelude.{◌==◌, ◌&&◌, not, bit_and, Ok}
 use Rattle.std.proofs.lemmas.Bool.{eqb-true}
 use Rattle.plain_text.specs.declared.packet.Packet.{Packet}
@@ -12,8 +12,8 @@ use Rattle.nat_tables.specs.declared.entries.Endpoint.{Endpoint}
 use Rattle.nat_tables.specs.declared.slot.Slot.{Slot}
 use Rattle.nat_tables.specs.declared.phase.Phase.{Phase}
 use Rattle.nat_tables.specs.declared.phase.Phase.TheVariants.{Closing}
-use Rattle.nat_tables.specs.Forwards.{Forwards, slot_of, is_idle, first_idle, refresh, in_phase, found_there}
-use Rattle.nat_tables.specs.Forwards.{found, lives, lives_at, AreMappings}
+use Rattle.nat_tables.specs.Forwards.{Forwards, slot_of, is_idle, first_idle, refresh, in_phase, found_there, found}
+use Rattle.nat_tables.specs.Forwards.{lives, lives_at, AreMappings}
 use Rattle.nat_tables.proofs.Keeping.{may_slot}
 use Rattle.flow_boxes.specs.Flows.{source_of, dest_of}
 use Rattle.balancer_box.specs.declared.place.Place.{Place}
@@ -29,21 +29,22 @@ use Rattle.balancer_box.specs.declared.value.BalancerValue.TheVariants.{Connecte
 use Rattle.balancer_box.specs.Connections.{closed, without_if, has_ended}
 use Rattle.balancer_box.specs.Places.{place_numbered}
 use Rattle.balancer_box.specs.Settings.{Settings}
-use Rattle.balancer_box.specs.Balancer.{is_virtual, backend_at, next_move, resets, tells_by, heard}
-use Rattle.balancer_box.specs.Balancer.{phase_then, opens, gives_way, met, met_there, met_by, checked_there, checked_by}
-use Rattle.balancer_box.specs.Balancer.{finds, connects, checks, touched, noted_by, HasPhase, MayConnect, Fits}
+use Rattle.balancer_box.specs.Balancer.{is_virtual, backend_at, next_move, resets, tells_by, heard, phase_then, opens}
+use Rattle.balancer_box.specs.Balancer.{gives_way, met, met_there, met_by, checked_there, checked_by, finds, connects}
+use Rattle.balancer_box.specs.Balancer.{checks, touched, noted_by, HasPhase, MayConnect, Fits}
 use Rattle.balancer_box.specs.Entries.{connections_in}
 use Rattle.balancer_box.specs.Emissions.{Trail, trail_of}
 use Rattle.balancer_box.proofs.ConnectionLemmas.{slot_in_phase, without_refreshed}
-use Rattle.balancer_box.proofs.Emissions.{IsOf}
+use Rattle.balancer_box.proofs.Sendings.{IsOf}
 use Rattle.balancer_runs.specs.Choosing.{loads_met}
 use Rattle.balancer_runs.specs.Idle.{IsIdleAt, IsLiveAt}
 use Rattle.balancer_runs.specs.Staying.{HasReset, HasOpening}
 use Rattle.balancer_runs.specs.Following.{PhaseGoesOn, HadPhase, IsOfSide}
 use Rattle.balancer_runs.specs.Ending.{IsHeard, SidesAreHeard, EndedGiveWay, ResetsRemove}
 use Rattle.balancer_runs.proofs.Tables.{idle_is, live_is, none_without}
-use Rattle.balancer_runs.proofs.Knowing.{IsBase, IsTold, KnownAt, client_of, answer_of}
-use Rattle.balancer_runs.proofs.Following.{NowAt, AreNow, were_finds, were_connects, of_client, now_goes_on, tells_open}
+use Rattle.balancer_runs.proofs.Known.{IsBase, IsTold, KnownAt, client_of, answer_of}
+use Rattle.balancer_runs.proofs.Followed.{tells_open}
+use Rattle.balancer_runs.proofs.Following.{NowAt, AreNow, were_finds, were_connects, of_client, now_goes_on}
 use Rattle.balancer_runs.proofs.Touching.{table_touched}
 
 -- What an answer leaves of its client's connection, where that is one to its backend

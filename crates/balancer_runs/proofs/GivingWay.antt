@@ -1,6 +1,6 @@
 -- Idle connections give way.
-use Rattle.std.proofs.Common.{◌≡◌, ℕ, ◌≤◌, Bool, true, false, List, [], ◌∷◌, refl, sym, ap, ◌∙◌, subst}
-use Rattle.std.proofs.Common.{◌⊎◌, inl, inr, arith, Option, Some, None}
+use Rattle.std.proofs.Common.{◌≡◌, ℕ, ◌≤◌, Bool, true, false, List, [], ◌∷◌, refl, sym, ap, ◌∙◌, subst, ◌⊎◌, inl, inr}
+use Rattle.std.proofs.Common.{arith, Option, Some, None}
 use Rattle.std.specs.Prelude.{if◌then◌else◌}
 use Rattle.plain_text.specs.declared.packet.Packet.{Packet}
 use Rattle.plain_machine.specs.declared.local.Move.TheVariants.{Access}
@@ -22,8 +22,8 @@ use Rattle.balancer_box.specs.declared.value.BalancerValue.TheVariants.{Connecte
 use Rattle.balancer_box.specs.Connections.{closed, without_if}
 use Rattle.balancer_box.specs.Places.{place_numbered}
 use Rattle.balancer_box.specs.Settings.{Settings}
-use Rattle.balancer_box.specs.Balancer.{next_move, phase_then, noting, gives_way, met, met_there, met_by}
-use Rattle.balancer_box.specs.Balancer.{finds, connects, touched, noted_by, balancer_meaning, HasPhase, MayConnect, Fits}
+use Rattle.balancer_box.specs.Balancer.{next_move, phase_then, noting, gives_way, met, met_there, met_by, finds}
+use Rattle.balancer_box.specs.Balancer.{connects, touched, noted_by, balancer_meaning, HasPhase, MayConnect, Fits}
 use Rattle.balancer_box.specs.Entries.{connections_in}
 use Rattle.balancer_box.specs.Emissions.{Trail, trail_of}
 use Rattle.balancer_box.proofs.ConnectionLemmas.{missed}
@@ -32,7 +32,7 @@ use Rattle.balancer_runs.specs.Refreshing.{IsOfClient}
 use Rattle.balancer_runs.specs.GivingWay.{IsDated, IsGone, GiveWay, IdleGiveWay}
 use Rattle.balancer_runs.proofs.Tables.{idle_is, live_is, other_refresh, other_in_phase, other_without, none_without}
 use Rattle.balancer_runs.proofs.Tables.{without_idle_had}
-use Rattle.balancer_runs.proofs.Knowing.{KnownAt}
+use Rattle.balancer_runs.proofs.Known.{KnownAt}
 use Rattle.balancer_runs.proofs.Refreshing.{WasUsed, IsRefreshed, finds_used, connects_used, own_client, not_answer}
 use Rattle.balancer_runs.proofs.Touching.{table_touched}
 

@@ -1,6 +1,6 @@
 -- An answer goes out by a connection that is not idle.
-use Rattle.std.proofs.Common.{◌≡◌, ◌≢◌, ℕ, ◌+◌, ◌<◌, Bool, true, false, List, [], ◌∷◌, refl, sym, ap, ◌∙◌, subst}
-use Rattle.std.proofs.Common.{◌⊎◌, inl, inr, Option, Some, None}
+use Rattle.std.proofs.Common.{◌≡◌, ◌≢◌, ℕ, ◌+◌, ◌<◌, Bool, true, false, List, [], ◌∷◌, refl, sym, ap, ◌∙◌, subst, ◌⊎◌}
+use Rattle.std.proofs.Common.{inl, inr, Option, Some, None}
 use Rattle.std.specs.Prelude.{◌==◌, not}
 use Rattle.std.proofs.lemmas.Bool.{eqb-true}
 use Rattle.plain_text.specs.declared.packet.Packet.{Packet}
@@ -22,15 +22,16 @@ use Rattle.balancer_box.specs.declared.value.BalancerValue.TheVariants.{Dropped,
 use Rattle.balancer_box.specs.Places.{place_numbered}
 use Rattle.balancer_box.specs.Settings.{Settings, AreSettings}
 use Rattle.balancer_box.specs.Balancer.{is_virtual, backend_at, noted_by, balancer_meaning, HasPhase, Fits}
-use Rattle.balancer_box.specs.Lawful.{var_of, touches_it, below_all, balancer_lawful}
+use Rattle.balancer_box.specs.Ranks.{var_of, touches_it, below_all}
+use Rattle.balancer_box.specs.Lawful.{balancer_lawful}
 use Rattle.balancer_box.specs.Emissions.{Trail, newer, trail_by, trail_of, Lived, IsSentOnOf}
 use Rattle.balancer_box.proofs.Emissions.{emissions_follow}
 use Rattle.balancer_box.proofs.Making.{Made, made}
 use Rattle.balancer_runs.specs.Idle.{IsLiveAt}
 use Rattle.balancer_runs.specs.Answering.{MetLive, AnswersComeBeforeIdle}
 use Rattle.balancer_runs.proofs.Tables.{live_is}
-use Rattle.balancer_runs.proofs.Following.{connection_phase}
-use Rattle.balancer_runs.proofs.Knowing.{both}
+use Rattle.balancer_runs.proofs.Followed.{connection_phase}
+use Rattle.balancer_runs.proofs.Known.{both}
 
 -- The table that a packet's moves found has the phases of connections
 

@@ -42,10 +42,9 @@ use Rattle.balancer_runs.specs.Idle.{IsLiveAt}
 use Rattle.balancer_runs.specs.Staying.{Stays}
 use Rattle.balancer_runs.specs.Following.{Follows, PhaseGoesOn, HadPhase, IsOfSide, IsFollowedOn}
 use Rattle.balancer_runs.specs.Ending.{IsHeard}
-use Rattle.balancer_runs.specs.Saying.{Said, phase_said, has_bit, with_segment, is_number, answers}
-use Rattle.balancer_runs.specs.Saying.{said_with, said_by, said_in_hand, since, act_touches, said_after, said_of}
-use Rattle.balancer_runs.specs.Saying.{PhasesAreSaid}
-use Rattle.balancer_runs.proofs.Knowing.{both}
+use Rattle.balancer_runs.specs.Saying.{Said, phase_said, has_bit, with_segment, is_number, answers, said_with, said_by}
+use Rattle.balancer_runs.specs.Saying.{said_in_hand, since, act_touches, said_after, said_of, PhasesAreSaid}
+use Rattle.balancer_runs.proofs.Known.{both}
 use Rattle.balancer_runs.proofs.Connections.{time_noted, in_table, connections_stay}
 use Rattle.balancer_runs.proofs.Following.{sides_follow}
 use Rattle.balancer_runs.proofs.Touching.{table_touched}

@@ -1,6 +1,6 @@
 -- What is of the service, and why each other packet is dropped.
-use Rattle.std.proofs.Common.{◌≡◌, ℕ, ◌-◌, ◌<◌, ◌≤◌, Bool, true, false, refl, sym, subst, inl, inr, arith}
-use Rattle.std.proofs.Common.{Option, Some, None, length, get_or}
+use Rattle.std.proofs.Common.{◌≡◌, ℕ, ◌-◌, ◌<◌, ◌≤◌, Bool, true, false, refl, sym, subst, inl, inr, arith, Option, Some}
+use Rattle.std.proofs.Common.{None, length, get_or}
 use Rattle.std.specs.Prelude.{◌==◌, ◌&&◌, cond, nat_lt, slice_get, Ok}
 use Rattle.std.specs.List.{position_or_len}
 use Rattle.std.proofs.lemmas.Bool.{eqb-true}
@@ -24,7 +24,7 @@ use Rattle.balancer_box.proofs.Emissions.{emissions_follow}
 use Rattle.balancer_runs.specs.Causes.{HasCause, IsUnconnected}
 use Rattle.balancer_runs.specs.Serving.{GoesToService, ComesFromBackend, IsOfService, SentAreOfService, HasReason}
 use Rattle.balancer_runs.specs.Serving.{StraysAreOfNone}
-use Rattle.balancer_runs.proofs.Knowing.{both}
+use Rattle.balancer_runs.proofs.Known.{both}
 use Rattle.balancer_runs.proofs.DropCauses.{drops_have}
 
 module _ (s : Settings) (flow : Flow) where

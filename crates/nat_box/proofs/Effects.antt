@@ -27,11 +27,11 @@ use Rattle.nat_box.specs.declared.value.NatValue.{NatValue}
 use Rattle.nat_box.specs.declared.value.NatValue.TheVariants.{Dropped, Free, Mapped, Taken}
 use Rattle.nat_box.specs.Places.{source_key, drawn_word, no_port}
 use Rattle.nat_box.specs.Settings.{Settings}
-use Rattle.nat_box.specs.Nat.{reverse_table, mapped, after_find, after_reserve, after_bind, touched, Fits}
-use Rattle.nat_box.specs.Nat.{goes, dropped, over_limit}
+use Rattle.nat_box.specs.Nat.{reverse_table, mapped, after_find, after_reserve, after_bind, touched, Fits, goes}
+use Rattle.nat_box.specs.Nat.{dropped, over_limit}
 use Rattle.nat_box.specs.declared.place.Goes.{Goes}
 use Rattle.nat_box.specs.LimitLaws.{Comes}
-use Rattle.nat_box.specs.Lawful.{var_of}
+use Rattle.nat_box.specs.Ranks.{var_of}
 use Rattle.nat_box.specs.PortStanding.{free_at, maps, maps_for, mapped_at, binds, binds_for, taken_at, bare, queued}
 use Rattle.nat_box.specs.PortStanding.{queued_for, loose, Tally, IsSound}
 

@@ -9,4 +9,5 @@ pub mod Sentences
 pub mod Making
 pub mod SeenAs
 pub mod LivePorts
+pub mod Translations
 pub mod Emissions

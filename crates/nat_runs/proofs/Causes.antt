@@ -1,6 +1,6 @@
 -- Each drop that is counted has its cause.
-use Rattle.std.proofs.Common.{◌≡◌, ℕ, ◌+◌, ◌*◌, ◌-◌, ◌<◌, Bool, List, refl, sym, ap, ◌∙◌, subst}
-use Rattle.std.proofs.Common.{true, ◌⊎◌, arith, Option, Some, None}
+use Rattle.std.proofs.Common.{◌≡◌, ℕ, ◌+◌, ◌*◌, ◌-◌, ◌<◌, Bool, List, refl, sym, ap, ◌∙◌, subst, true, ◌⊎◌, arith}
+use Rattle.std.proofs.Common.{Option, Some, None}
 use Rattle.std.specs.Prelude.{cond, nat_eq}
 use Rattle.plain_text.specs.declared.packet.Packet.{Packet}
 use Rattle.entry_order.specs.Log.{Entry, places}
@@ -22,7 +22,8 @@ use Rattle.nat_box.specs.declared.value.NatValue.TheVariants.{Dropped}
 use Rattle.nat_box.specs.Places.{noted, drop_reason}
 use Rattle.nat_box.specs.Settings.{Settings, AreSettings}
 use Rattle.nat_box.specs.Nat.{touched_by, followed, nat_meaning, Fits}
-use Rattle.nat_box.specs.Lawful.{var_of, touches_it, nat_lawful}
+use Rattle.nat_box.specs.Ranks.{var_of, touches_it}
+use Rattle.nat_box.specs.Lawful.{nat_lawful}
 use Rattle.flow_boxes.proofs.HeldInputs.{IsHeld, run_holds}
 use Rattle.nat_box.proofs.Making.{comes_to}
 use Rattle.nat_runs.specs.Met.{Met, met_of}
@@ -33,7 +34,8 @@ use Rattle.nat_runs.proofs.ThreadMoves.{TouchKind, finds, unbinds_freed, gives_f
 use Rattle.nat_runs.proofs.ThreadMoves.{unbinds_lost, gives_lost, counts, touch_kind, at, touched_below, by_move}
 use Rattle.nat_runs.proofs.ThreadMoves.{entry_is}
 use Rattle.nat_runs.proofs.FullHosts.{FullAt, Full, run_full}
-use Rattle.nat_runs.proofs.Knowing.{KnownAt, Known, run_known}
+use Rattle.nat_runs.proofs.Known.{KnownAt, Known}
+use Rattle.nat_runs.proofs.Knowing.{run_known}
 
 -- what a count leaves, and its cause
 abbrev Counted : Settings → Met → Type 0 → Bool → Packet → NatValue → NatValue → Type 0

@@ -1,6 +1,6 @@
 -- Idle mappings give way.
-use Rattle.std.proofs.Common.{◌≡◌, ℕ, ◌+◌, ◌*◌, ◌-◌, ◌<◌, ◌≤◌, max, Bool, true, false, List, [], ◌∷◌, ◌++◌, refl}
-use Rattle.std.proofs.Common.{sym, ap, ◌∙◌, subst, ◌⊎◌, inl, inr, arith, Option, Some, None}
+use Rattle.std.proofs.Common.{◌≡◌, ℕ, ◌+◌, ◌*◌, ◌-◌, ◌<◌, ◌≤◌, max, Bool, true, false, List, [], ◌∷◌, ◌++◌, refl, sym}
+use Rattle.std.proofs.Common.{ap, ◌∙◌, subst, ◌⊎◌, inl, inr, arith, Option, Some, None}
 use Rattle.std.specs.Prelude.{cond, nat_eq, ◌&&◌, ◌==◌, if◌then◌else◌, Ok}
 use Rattle.std.proofs.lemmas.Bool.{cases_lt}
 use Rattle.std.proofs.lemmas.Bool.Decides.{nat_tests}
@@ -23,8 +23,7 @@ use Rattle.nat_tables.specs.declared.entries.Bind.{Bind}
 use Rattle.nat_tables.specs.Keys.{same_endpoint}
 use Rattle.nat_tables.specs.Forwards.{Forwards, is_idle, slot_of, first_idle, without, without_idle, refresh, refreshed}
 use Rattle.nat_tables.specs.Forwards.{found_there, found, find, bound, find_or_bind, Misses, AreMappings}
-use Rattle.nat_tables.specs.Hosts.{is_of_host, is_full, first_idle_of, given_up, found_within, find_within}
-use Rattle.nat_tables.specs.Hosts.{bind_within}
+use Rattle.nat_tables.specs.Hosts.{is_of_host, is_full, first_idle_of, given_up, found_within, find_within, bind_within}
 use Rattle.nat_tables.proofs.Counting.{same_is}
 use Rattle.flow_boxes.specs.Flows.{source_of}
 use Rattle.flow_boxes.proofs.Fitting.{same_self}
@@ -50,7 +49,8 @@ use Rattle.nat_runs.proofs.TableEntries.{idle_is, live_is, missed, slot_in, not_
 use Rattle.nat_runs.proofs.ThreadMoves.{TouchKind, finds, unbinds_freed, gives_freed, reserves, binds, finds_or_binds}
 use Rattle.nat_runs.proofs.ThreadMoves.{unbinds_lost, gives_lost, counts, touch_kind, at, touched_below, by_move}
 use Rattle.nat_runs.proofs.ThreadMoves.{entry_is}
-use Rattle.nat_runs.proofs.Knowing.{IsBase, IsOnWay, KnownAt, Known, run_known}
+use Rattle.nat_runs.proofs.Known.{IsBase, IsOnWay, KnownAt, Known}
+use Rattle.nat_runs.proofs.Knowing.{run_known}
 use Rattle.nat_runs.proofs.FullHosts.{FullAt, Full, run_full}
 
 -- Which mappings are idle

@@ -1,6 +1,6 @@
 -- A new mapping has the parity of its inside port while a port of this parity is free.
-use Rattle.std.proofs.Common.{◌≡◌, ◌≢◌, ℕ, ◌+◌, ◌*◌, ◌%◌, ◌<◌, ◌≤◌, Bool, true, false, List, [], ◌∷◌, ◌++◌, refl}
-use Rattle.std.proofs.Common.{sym, ap, ◌∙◌, subst, ◌⊎◌, inl, inr, arith, Option, Some, None}
+use Rattle.std.proofs.Common.{◌≡◌, ◌≢◌, ℕ, ◌+◌, ◌*◌, ◌%◌, ◌<◌, ◌≤◌, Bool, true, false, List, [], ◌∷◌, ◌++◌, refl, sym}
+use Rattle.std.proofs.Common.{ap, ◌∙◌, subst, ◌⊎◌, inl, inr, arith, Option, Some, None}
 use Rattle.std.specs.Prelude.{cond, nat_eq, ◌==◌, if◌then◌else◌, Result, Ok, Err}
 use Rattle.plain_text.specs.declared.packet.Packet.{Packet}
 use Rattle.entry_order.proofs.Order.{is_or}
@@ -20,14 +20,12 @@ use Rattle.nat_tables.specs.declared.entries.Bind.TheVariants.{Bound, Other}
 use Rattle.nat_tables.specs.Keys.{same_endpoint, port_key}
 use Rattle.nat_tables.specs.Ports.{PoolPorts, reserve, free_of, ArePorts}
 use Rattle.nat_tables.specs.Forwards.{Forwards, is_idle, slot_of, first_idle, refresh, refreshed, found_there, found}
-use Rattle.nat_tables.specs.Forwards.{find}
-use Rattle.nat_tables.specs.Forwards.{bound, find_or_bind, lives}
+use Rattle.nat_tables.specs.Forwards.{find, bound, find_or_bind, lives}
 use Rattle.nat_tables.specs.Hosts.{is_full, find_within, bind_within}
 use Rattle.nat_tables.specs.Reverses.{endpoint_of}
 use Rattle.nat_tables.proofs.Parity.{keeps_parity}
 use Rattle.nat_box.specs.declared.place.Place.{Place}
-use Rattle.nat_box.specs.declared.place.Place.TheVariants.{HearsTime}
-use Rattle.nat_box.specs.declared.place.Place.TheVariants.{DrawsWord, ReservesPort, BindsPort, FindsOrBinds}
+use Rattle.nat_box.specs.declared.place.Place.TheVariants.{HearsTime, DrawsWord, ReservesPort, BindsPort, FindsOrBinds}
 use Rattle.nat_box.specs.declared.place.Place.TheVariants.{Ends}
 use Rattle.nat_box.specs.declared.place.Class.{Class}
 use Rattle.nat_box.specs.declared.place.Class.TheVariants.{Outbound, Hairpin, Inbound, OutboundError}
@@ -40,10 +38,10 @@ use Rattle.nat_box.specs.Settings.{Settings, AreSettings}
 use Rattle.nat_box.specs.Nat.{goes, dropped, over_limit, class_seen, flow_seen, begun_by, mapped, after_find}
 use Rattle.nat_box.specs.Nat.{after_reserve, after_bind, after_find_within, after_bind_within, after_lost, touched_by}
 use Rattle.nat_box.specs.Nat.{followed_by, followed, after_endpoint, looked_by, live_port, after_port, looked}
-use Rattle.nat_box.specs.Nat.{after_time}
-use Rattle.nat_box.specs.Nat.{told, local_at, begun, seen_by, nat_meaning, Fits}
+use Rattle.nat_box.specs.Nat.{after_time, told, local_at, begun, seen_by, nat_meaning, Fits}
 use Rattle.nat_box.specs.Noting.{place_again, IsNoted, is_noted, noted_again}
-use Rattle.nat_box.specs.Lawful.{var_of, touches_it, nat_lawful}
+use Rattle.nat_box.specs.Ranks.{var_of, touches_it}
+use Rattle.nat_box.specs.Lawful.{nat_lawful}
 use Rattle.nat_box.specs.PortStanding.{free_at}
 use Rattle.nat_box.specs.Sentences.{Has, mappings_in}
 use Rattle.nat_box.proofs.Noting.{touched_noted}
@@ -58,7 +56,7 @@ use Rattle.nat_runs.proofs.ThreadMoves.{TouchKind, finds, unbinds_freed, gives_f
 use Rattle.nat_runs.proofs.ThreadMoves.{unbinds_lost, gives_lost, counts, LookKind, finds_endpoint, asks, finds_port}
 use Rattle.nat_runs.proofs.ThreadMoves.{touch_kind, look_kind, at_clock, at_draw, at, touched_below, read_below}
 use Rattle.nat_runs.proofs.ThreadMoves.{by_move}
-use Rattle.nat_runs.proofs.Knowing.{free_elsewhere, timed, time_noted, looked_noted}
+use Rattle.nat_runs.proofs.Known.{free_elsewhere, timed, time_noted, looked_noted}
 
 -- What is so of the port in hand
 

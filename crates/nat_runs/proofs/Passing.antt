@@ -36,26 +36,25 @@ use Rattle.nat_box.specs.declared.place.Goes.{Goes}
 use Rattle.nat_box.specs.declared.seeing.Seen.{Seen}
 use Rattle.flow_boxes.specs.Drops.{with_drop}
 use Rattle.nat_box.specs.Settings.{Settings, AreSettings}
-use Rattle.nat_box.specs.Nat.{goes, seen_by, flow_in, class_in, begun_by, begun, mapped, after_find}
-use Rattle.nat_box.specs.Nat.{after_reserve}
-use Rattle.nat_box.specs.Nat.{after_bind, live_port, after_port}
-use Rattle.nat_box.specs.Nat.{dropped, over_limit, after_find_within, after_bind_within, after_lost, touched_by}
-use Rattle.nat_box.specs.Nat.{followed, after_endpoint, looked_by, looked, after_time, told, nat_meaning}
-use Rattle.nat_box.specs.Nat.{Fits}
+use Rattle.nat_box.specs.Nat.{goes, seen_by, flow_in, class_in, begun_by, begun, mapped, after_find, after_reserve}
+use Rattle.nat_box.specs.Nat.{after_bind, live_port, after_port, dropped, over_limit, after_find_within}
+use Rattle.nat_box.specs.Nat.{after_bind_within, after_lost, touched_by, followed, after_endpoint, looked_by, looked}
+use Rattle.nat_box.specs.Nat.{after_time, told, nat_meaning, Fits}
 use Rattle.nat_box.specs.Noting.{place_again}
-use Rattle.nat_box.specs.Lawful.{var_of, touches_it, nat_lawful}
+use Rattle.nat_box.specs.Ranks.{var_of, touches_it}
+use Rattle.nat_box.specs.Lawful.{nat_lawful}
 use Rattle.flow_boxes.proofs.Summing.{one_changes, sum_of_none, term_of_sum}
 use Rattle.nat_box.proofs.Making.{comes_to, goes_on}
 use Rattle.nat_runs.specs.Met.{Met, met_of}
-use Rattle.nat_runs.specs.Passing.{taken_by, taken_in, drops_in, waits_at, waits, waiting, counted_by}
-use Rattle.nat_runs.specs.Passing.{HasPassed, EachPasses, NoneVanishes, NoneVanishesAtRest}
+use Rattle.nat_runs.specs.Passing.{taken_by, taken_in, drops_in, waits_at, waits, waiting, counted_by, HasPassed}
+use Rattle.nat_runs.specs.Passing.{EachPasses, NoneVanishes, NoneVanishesAtRest}
 use Rattle.nat_runs.proofs.DropCounts.{drop_is, one_more_long, one_more_sum}
 use Rattle.nat_runs.proofs.ThreadMoves.{TouchKind, finds, unbinds_freed, gives_freed, reserves, binds, finds_or_binds}
 use Rattle.nat_runs.proofs.ThreadMoves.{unbinds_lost, gives_lost, counts, LookKind, finds_endpoint, asks, finds_port}
-use Rattle.nat_runs.proofs.ThreadMoves.{touch_kind}
-use Rattle.nat_runs.proofs.ThreadMoves.{look_kind, at_clock, at_draw, at_emit, at_end, at, touched_below, read_below}
-use Rattle.nat_runs.proofs.ThreadMoves.{begins_with, by_thread_move, by_move}
-use Rattle.nat_runs.proofs.Knowing.{KnownAt, Known, run_known}
+use Rattle.nat_runs.proofs.ThreadMoves.{touch_kind, look_kind, at_clock, at_draw, at_emit, at_end, at, touched_below}
+use Rattle.nat_runs.proofs.ThreadMoves.{read_below, begins_with, by_thread_move, by_move}
+use Rattle.nat_runs.proofs.Known.{KnownAt, Known}
+use Rattle.nat_runs.proofs.Knowing.{run_known}
 
 -- Who waits
 

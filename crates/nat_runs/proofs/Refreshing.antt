@@ -1,6 +1,6 @@
 -- Packets from inside refresh the mapping of their own endpoint.
-use Rattle.std.proofs.Common.{◌≡◌, ◌≢◌, ℕ, ◌+◌, ◌*◌, ◌-◌, ◌<◌, Bool, true, false, List, refl, sym, ap, ◌∙◌}
-use Rattle.std.proofs.Common.{subst, ◌⊎◌, inl, inr, Option, Some, None}
+use Rattle.std.proofs.Common.{◌≡◌, ◌≢◌, ℕ, ◌+◌, ◌*◌, ◌-◌, ◌<◌, Bool, true, false, List, refl, sym, ap, ◌∙◌, subst, ◌⊎◌}
+use Rattle.std.proofs.Common.{inl, inr, Option, Some, None}
 use Rattle.std.specs.Prelude.{cond, nat_eq}
 use Rattle.plain_text.specs.declared.packet.Packet.{Packet}
 use Rattle.entry_order.proofs.Order.{is_or}
@@ -40,9 +40,10 @@ use Rattle.nat_runs.proofs.TableEntries.{slot_in, WasOr, refresh_was, bound_was,
 use Rattle.nat_runs.proofs.ThreadMoves.{TouchKind, finds, unbinds_freed, gives_freed, reserves, binds, finds_or_binds}
 use Rattle.nat_runs.proofs.ThreadMoves.{unbinds_lost, gives_lost, counts, touch_kind, at_emit, at, touched_below}
 use Rattle.nat_runs.proofs.ThreadMoves.{by_move}
-use Rattle.nat_box.proofs.Emissions.{IfOutward}
+use Rattle.nat_box.proofs.Translations.{IfOutward}
 use Rattle.nat_box.proofs.SeenAs.{same_flow, flow_is_seen, class_is_seen}
-use Rattle.nat_runs.proofs.Knowing.{outward_flow, from_inside, IsBase, Refreshed, IsOnWay, KnownAt, Known, run_known}
+use Rattle.nat_runs.proofs.Known.{outward_flow, from_inside, IsBase, Refreshed, IsOnWay, KnownAt, Known}
+use Rattle.nat_runs.proofs.Knowing.{run_known}
 
 -- What a touch leaves
 
