@@ -34,11 +34,10 @@ loop-start-preserved c =
     let at = c.in-Some.at in
     let first = c.in-Some.ensures.first in
     let of : row_is_of_host c.args.key.now (row_at rows at) ≡ false =
-    rw (← c.row-row.ensures) (sym c.if-is_of_host.ensures) in
-    (
+    rw (← c.row-row.ensures) (sym c.if-is_of_host.ensures) in (
       c.in-Some.ensures.live,
       sym (sym c.loop-start.invariant.1 ∙ skips_to c.args.key.now c.args.now rows c.loop-start.start at first
-      ∙ idle_next c.args.key.now c.args.now rows at ∙ (rw of refl)),
+          ∙ idle_next c.args.key.now c.args.now rows at ∙ (rw of refl)),
     )
 
 pub returns-clause-first : goal.returns-clause-first
