@@ -274,7 +274,7 @@ module _ (i seconds : ℕ) (n : Noted) where
           both (omega (arith, x, y, w))
       by true false p q = absurd (let z : has_ended new ≡ true = stays_ended seconds n slot.phase p in cc)
 
-  -- a connection that is not idle, noted in a table that has as many
+  -- a live connection, noted in a table that has as many
   used_even : (slot : Slot) (left : Forwards) (backend sum : ℕ) → slot_of n.client left ≡ Some slot
       → slot.port ≡ backend → counted i left ≡ sum
       → CountTo i sum (noting seconds n slot left, goes_to n (ends seconds n slot) backend)

@@ -69,7 +69,7 @@ abbrev pub WasConnected : Option Forwards → Endpoint → ℕ → Type 0
 WasConnected table client number =
     (es : Forwards) × (slot : Slot) × (table ≡ Some es) × (slot_of client es ≡ Some slot) × (slot.port ≡ number)
 
--- the client's connection to the backend of this number was there, and not idle, at the packet's last touch of its
+-- the client's connection to the backend of this number was there, and live, at the packet's last touch of its
 -- table
 abbrev pub Lived : Trail → Endpoint → ℕ → Type 0
 Lived r client number =

@@ -7,7 +7,7 @@ use nat_tables::Endpoint;
 /// that translates addresses (RFC 3022).
 ///
 /// A new client is connected to the backend of least load, the first of equals, and stays there while its connection is
-/// not idle. A client's packets go to its backend, and the backend's answers come from the virtual address and port. A
+/// live. A client's packets go to its backend, and the backend's answers come from the virtual address and port. A
 /// TCP packet with RST closes its connection. Where TCP connections are followed to their end, one that both sides
 /// ended, or one reset, counts for no load any more, and is kept for a number of seconds of its own, in which its
 /// client may open another.

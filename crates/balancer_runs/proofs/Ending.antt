@@ -53,7 +53,7 @@ module _ (s : Settings) (n : Noted) (es : Forwards) (v : ℕ) (all : AreMappings
   has_phase : (slot : Slot) → slot_of n.client es ≡ Some slot → HasPhase s.closing n.client.protocol slot.phase
   has_phase slot at = (may_slot (MayConnect s v) n.client slot es at all).3
 
-  -- it was not idle, and notes the packet; or it was, and is the same
+  -- it was live, and notes the packet; or it was, and is the same
   abbrev IsChecked : Option ℕ → Slot → Type 0
   IsChecked c new =
       (old : Slot) × (slot_of n.client es ≡ Some old)

@@ -147,7 +147,7 @@ module _ (s : Settings) (n : Noted) (es : Forwards) (v : ℕ) (all : AreMappings
         ∙ sym (only_own (without n.client es) (λ client q. other_without n.client client es q) b gone_too);
   }
 
-  -- its own was not idle, whatever the packet makes of it
+  -- its own was live, whatever the packet makes of it
   own_used : (slot : Slot) (left : Forwards) → slot_of n.client es ≡ Some slot
       → is_idle n.time (n.client, slot) ≡ false → LeavesOthers left → Gives left
   own_used slot left at live others = record {

@@ -1,4 +1,4 @@
--- An answer goes to a client whose connection to its backend is not idle.
+-- An answer goes to a client whose connection to its backend is live.
 use Rattle.std.specs.Prelude.{◌≡◌, ℕ, ◌-◌, false, List, ◌∷◌, Some, Ok, slice_get}
 use Rattle.plain_text.specs.declared.packet.Packet.{Packet}
 use Rattle.packet_headers.specs.declared.flow.Flow.{Flow}

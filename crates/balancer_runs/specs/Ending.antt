@@ -26,7 +26,7 @@ use Rattle.balancer_runs.specs.Idle.{IsLiveAt}
 use Rattle.balancer_runs.specs.Staying.{HasReset, HasOpening}
 use Rattle.balancer_runs.specs.Following.{HadPhase, IsOfSide, PhaseGoesOn}
 
--- a client's packet is heard by each connection that it leaves; an answer where the connection is not idle
+-- a client's packet is heard by each connection that it leaves; an answer where the connection is live
 abbrev pub IsHeard : Class → ℕ → Endpoint → Option Slot → Type 0
 IsHeard Client now client old = Unit {0}
 IsHeard Answer now client None = ⊥
@@ -63,7 +63,7 @@ EndedGiveWay =
     → slot_of client es ≡ Some slot → slot.phase ≡ Closing seconds
     → slot_of client (connections_in (value_after (balancer_meaning s) (x ∷ earlier) v)) ≡ None
 
--- where connections are not followed, each touch of a table by a packet that resets a connection which is not idle
+-- where connections are not followed, each touch of a table by a packet that resets a live connection
 abbrev pub ResetsRemove : Type 0
 ResetsRemove =
     (s : Settings) (threads : ℕ) (inputs : ℕ → List Packet) (x : Step BalancerValue)

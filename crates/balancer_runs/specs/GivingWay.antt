@@ -31,7 +31,7 @@ abbrev pub IsGone : Forwards → Forwards → Endpoint → Type 0
 IsGone es after client = ((slot : Slot) × (slot_of client es ≡ Some slot)) × (slot_of client after ≡ None)
 
 -- What a packet leaves of a table that looks for its client's connection there. A connection of its client is one that
--- was not idle. Where it had none, and one of the table was idle, one that was idle is gone. No more than one goes.
+-- was live. Where it had none, and one of the table was idle, one that was idle is gone. No more than one goes.
 pub record GiveWay (client : Endpoint) (now : ℕ) (es after : Forwards) : Type 0 where
   pub own : (slot : Slot) → slot_of client after ≡ Some slot
       → (old : Slot) × (slot_of client es ≡ Some old) × IsLiveAt now client old

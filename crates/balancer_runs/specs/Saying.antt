@@ -59,7 +59,7 @@ abbrev pub is_number : Option ℕ → ℕ → Bool
 is_number None number = false
 is_number (Some other) number = other == number
 
--- an answer to the client from the backend of its connection, which is not idle
+-- an answer to the client from the backend of its connection, which is live
 abbrev pub answers : Settings → Endpoint → ℕ → Flow → Option Slot → Bool
 answers s client now flow None = false
 answers s client now flow (Some slot) =

@@ -7,7 +7,7 @@ use Rattle.nat_tables.specs.declared.slot.Slot.{Slot}
 use Rattle.nat_tables.specs.Forwards.{Forwards, is_idle, slot_of, lives_at, lives}
 use Rattle.nat_box.specs.Nat.{live_slot, live_port}
 
--- it is that of a mapping that is not idle
+-- it is that of a live mapping
 pub live_is : (now : ℕ) (key : Endpoint) (slot : Slot) (port : ℕ) → live_slot key now (Some slot) ≡ Some port
     → (is_idle now (key, slot) ≡ false) × (slot.port ≡ port)
 live_is now key slot port e = by (is_idle now (key, slot)) refl e

@@ -335,7 +335,7 @@ abbrev pub looked_by : Noted → Bool → Goes
 looked_by n true = goes SendsOut n
 looked_by n false = dropped n no_mapping
 
--- the port of an endpoint's mapping, where there is one that is not idle
+-- the port of an endpoint's mapping, where there is one that is live
 
 abbrev pub live_slot : Endpoint → ℕ → Option Slot → Option ℕ
 live_slot key now None = None

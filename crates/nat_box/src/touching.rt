@@ -151,7 +151,7 @@ impl Noted {
         }
     }
 
-    /// The port of its source's mapping, where there is one that is not idle. It refreshes nothing.
+    /// The port of its source's mapping, where there is one that is live. It refreshes nothing.
     fn live_port(&self, table: &Mappings) -> Option<u16>
         ensures { result ≡ live_port self.now.source self.now.time table.now }
     {

@@ -63,7 +63,7 @@ IsTold s m p n = IsBase s p n × (m.clock ≡ Some n.time)
 abbrev pub IsOnWay : Settings → Met → Packet → Noted → Type 0
 IsOnWay s m p n = IsBase s p n × (m.clock ≡ Some n.time) × IsOutward n.class
 
--- its source had no mapping that is not idle
+-- its source had no live mapping
 abbrev pub WasUnmapped : Settings → Met → Noted → Type 0
 WasUnmapped s m n =
     (value : ℕ → NatValue) × (m.at_touch ≡ Some value) × ((port : ℕ) → HasNoneLive s value n.source port n.time)

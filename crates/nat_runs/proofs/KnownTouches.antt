@@ -90,7 +90,7 @@ module _ (s : Settings) (p : Packet) where
       omega arith,
     )
 
-    -- where it has no mapping that is not idle, it had none when the packet touched the table
+    -- where it has no live mapping, it had none when the packet touched the table
     module _ (unmapped : live_port n.source n.time es ≡ None → WasUnmapped s m n) where
       there_known : (slot : Slot) (idle : Bool) → slot_of n.source es ≡ Some slot
           → is_idle n.time (n.source, slot) ≡ idle
@@ -276,7 +276,7 @@ module _ (s : Settings) (p : Packet) where
   -- a touch, and a read, of variables with these values
   module _ (value : ℕ → NatValue) (fits : (v : ℕ) → v < 2 + 2 * s.shards → Fits s v (value v))
       (ports : (v : ℕ) (e : Endpoint × Slot) → IsMapping s value v e → 1 ≤ e.1.port) where
-    -- where the endpoint's own table has none that is not idle, no table has
+    -- where the endpoint's own table has none that is live, no table has
     none_live : (n : Noted) (w : ℕ) (es : Forwards) → value w ≡ Mapped es → w < 2 + 2 * s.shards
         → forward_table s n.source ≡ w → live_port n.source n.time es ≡ None
         → (port : ℕ) → HasNoneLive s value n.source port n.time

@@ -1,4 +1,4 @@
--- What comes in found a mapping that is not idle.
+-- What comes in found a live mapping.
 use Rattle.std.proofs.Common.{ℕ, List, Option, Some, None}
 use Rattle.plain_text.specs.declared.packet.Packet.{Packet}
 use Rattle.nat_tables.specs.declared.entries.Endpoint.{Endpoint}

@@ -281,7 +281,7 @@ module _ (s : Settings) (threads : ℕ) (inputs : ℕ → List Packet) (p : Stat
       bound_once (MayBind s r) (bound_in (old r)) (outside_of p) key (inside_of p) (bound_fit s r (old r) (fits r low))
       has_here named
 
-  -- and its mapping is there, and is not idle
+  -- and its mapping is there, and is live
   module _ (value : ℕ → NatValue) (old : WereThere s threads inputs value) where
     it_is_bound : IsUnbound s value (outside_of p) → ⊥
     it_is_bound unbound =

@@ -58,13 +58,13 @@ abbrev pub HasNoneLive : Settings → (ℕ → NatValue) → Endpoint → ℕ �
 HasNoneLive s value key port now =
     (v : ℕ) (slot : Slot) → IsMapping s value v (key, slot) → slot.port ≡ port → IsIdle now key slot
 
--- its endpoint had no mapping that is not idle, when the packet touched a forward table
+-- its endpoint had no live mapping when the packet touched a forward table
 abbrev pub HadNoneLive : Settings → Flow → Met → Type 0
 HadNoneLive s flow met =
     (value : ℕ → NatValue) × (now : ℕ) × (met.at_touch ≡ Some value) × (met.clock ≡ Some now)
     × ((port : ℕ) → HasNoneLive s value (source_of flow) port now)
 
--- 8: it comes from inside, from an endpoint that had no mapping that is not idle, and when it touched the pool, no port
+-- 8: it comes from inside, from an endpoint that had no live mapping, and when it touched the pool, no port
 -- of its protocol was free
 abbrev pub FoundNoPort : Settings → Packet → Met → ℕ → Type 0
 FoundNoPort s p met reason =
@@ -79,15 +79,14 @@ FoundNoneLive s flow met bound =
     × (value : ℕ → NatValue) × (now : ℕ) × (met.at_forward ≡ Some value) × (met.clock ≡ Some now)
     × HasNoneLive s value (endpoint flow.protocol key.address key.port) flow.dest_port now
 
--- 7: it goes inside, and when it read a reverse table, nothing was bound to the port that it goes to, or no mapping
--- that is not idle
+-- 7: it goes inside, and when it read a reverse table, nothing was bound to the port that it goes to, or no live
+-- mapping
 abbrev pub FoundNoMapping : Settings → Packet → Met → ℕ → Type 0
 FoundNoMapping s p met reason =
     (flow : Flow) × IsSeenAs s p flow × GoesInside s p × (bound : ℕ → NatValue) × (met.at_reverse ≡ Some bound)
     × (IsUnbound s bound (port_key flow.protocol flow.dest_port) ⊎ FoundNoneLive s flow met bound) × (reason ≡ 7)
 
--- or it is an outbound error, and when it read a forward table, the endpoint that it is about had no mapping that is
--- not idle
+-- or it is an outbound error, and when it read a forward table, the endpoint that it is about had no live mapping
 abbrev pub FoundNoneOut : Settings → Packet → Met → ℕ → Type 0
 FoundNoneOut s p met reason =
     (flow : Flow) × IsSeenAs s p flow × (class_seen s p ≡ Some OutboundError) × (value : ℕ → NatValue) × (now : ℕ)

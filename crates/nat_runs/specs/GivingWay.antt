@@ -37,7 +37,7 @@ MayGiveWay (Some most) key es own =
     most ≤ count_of key.protocol key.address es → (own.protocol ≡ key.protocol) × (own.address ≡ key.address)
 
 -- What a packet leaves of a table that looks for the mapping of its source there. A mapping of its source is one that
--- was not idle. Where it had none, and one that may give way was idle, one that was idle is gone.
+-- was live. Where it had none, and one that may give way was idle, one that was idle is gone.
 pub record GiveWay (limit : Option ℕ) (key : Endpoint) (now : ℕ) (es after : Forwards) : Type 0 where
   pub own : (slot : Slot) → Has after (key, slot) → (old : Slot) × Has es (key, old) × IsLive now key old
   pub other : ((slot : Slot) → Has es (key, slot) → ⊥) → (e : Endpoint × Slot) → Has es e → IsIdle now e.0 e.1

@@ -1,4 +1,4 @@
--- What comes in, or goes back inside, found a mapping to its port that is not idle (RFC 4787, REQ-5 and REQ-9); and so
+-- What comes in, or goes back inside, found a live mapping to its port (RFC 4787, REQ-5 and REQ-9); and so
 -- did each error of ICMP, in both directions (RFC 5508, REQ-4 and REQ-5).
 use Rattle.std.specs.Prelude.{◌≡◌, ℕ, ◌-◌, List, ◌∷◌, Option, Some, None, slice_get}
 use Rattle.plain_text.specs.declared.packet.Packet.{Packet}
@@ -22,7 +22,7 @@ use Rattle.flow_boxes.specs.Flows.{source_of, HaveBytes}
 use Rattle.nat_box.specs.Emissions.{Trail, trail_of}
 use Rattle.nat_runs.specs.Idle.{IsLive}
 
--- The forward table that the packet read last has a mapping of the endpoint to the port, and it was not idle at the
+-- The forward table that the packet read last has a mapping of the endpoint to the port, and it was live at the
 -- time that the packet was told.
 abbrev pub FoundLive : Trail → Endpoint → ℕ → Type 0
 FoundLive r key port =

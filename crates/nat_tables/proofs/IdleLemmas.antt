@@ -1,4 +1,4 @@
--- The first idle mapping of rows, by times up to which they are not idle.
+-- The first idle mapping of rows, by times up to which they are live.
 use Rattle.std.proofs.Common.{◌≡◌, ◌==◌, ℕ, zero, suc, ◌+◌, ◌<◌, ◌≤◌, Bool, true, false, List, [], ◌∷◌, ◌++◌, length}
 use Rattle.std.proofs.Common.{set}
 use Rattle.std.proofs.Common.{refl, sym, ap, subst, ◌∙◌, arith, ⊎_elim, Option, Some, None, length-append}
@@ -126,7 +126,7 @@ live_pushed times rows at time key slot live room last later = record {
 pub live_none : AreLiveUntil [] []
 live_none = record { long = omega arith; each = λ at less. absurd (omega arith) }
 
--- A mapping that is not kept and not idle is before its time
+-- A live mapping that is not kept is before its time
 
 pub idle_by : (now : ℕ) (e : Endpoint × Slot) → is_kept e.1.phase ≡ false → is_idle now e ≡ false
     → now < e.1.last + timer e.0.protocol e.1.phase

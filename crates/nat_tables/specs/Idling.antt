@@ -1,4 +1,4 @@
--- How long the mappings of rows are not idle.
+-- How long the mappings of rows are live.
 use Rattle.std.specs.Prelude.{◌≡◌, ℕ, ◌+◌, ◌<◌, ◌≤◌, Bool, true, false, List, length, Option, Some, None}
 use Rattle.nat_tables.specs.declared.entries.Endpoint.{Endpoint}
 use Rattle.nat_tables.specs.declared.slot.Slot.{Slot}
@@ -7,12 +7,12 @@ use Rattle.nat_tables.specs.Forwards.{is_idle}
 use Rattle.nat_tables.specs.Rows.{row_at}
 use Rattle.nat_tables.specs.Times.{time_at}
 
--- the mapping of a row is not idle up to this time; one that is kept never is
+-- the mapping of a row is live up to this time; one that is kept always is
 abbrev pub IsLiveUntil : ℕ → Option (Endpoint × Slot) → Type 0
 IsLiveUntil time None = Unit {0}
 IsLiveUntil time (Some e) = is_kept e.1.phase ≡ false → time < e.1.last + timer e.0.protocol e.1.phase
 
--- each row has a time up to which its mapping is not idle
+-- each row has a time up to which its mapping is live
 pub record AreLiveUntil (times : List ℕ) (rows : List (Option (Endpoint × Slot))) : Type 0 where
   pub long : length rows ≤ length times
   pub each : (at : ℕ) → at < length rows → IsLiveUntil (time_at times at) (row_at rows at)

@@ -23,7 +23,7 @@ use std::marker::Model;
 #[derive(Debug, Drop)]
 pub struct Forward {
     slots: FirstSeen<Endpoint, Slot>,
-    /// For each row a time up to which its mapping is not idle. A use makes it later, which is noted only when an idle
+    /// For each row a time up to which its mapping is live. A use makes it later, which is noted only when an idle
     /// mapping is looked for. A segment may make it earlier, which is noted at once.
     live_until: Times,
     alloc: Global,
@@ -63,7 +63,7 @@ fn is_of_host(key: &Endpoint, row: Option<(Endpoint, Slot)>) -> bool
     }
 }
 
-/// The last time at which the mapping of a row is not idle; an empty row never is.
+/// The last time at which the mapping of a row is live; of an empty row the last one that there is.
 fn live_until(row: Option<(Endpoint, Slot)>) -> u64
     ensures live { IsLiveUntil result row }
     ensures last { (now : ℕ) → now < 2 ^ 64 → row_is_idle now row ≡ false → now ≤ result }
@@ -263,9 +263,9 @@ impl Forward {
         })
     }
 
-    /// What an outbound packet finds of its source. A mapping that is there and not idle is refreshed (RFC 4787,
-    /// REQ-6). One that is idle is removed. Where there is none, the first idle mapping of the table is removed, in
-    /// first-seen order, if there is one; it may be of the other protocol.
+    /// What an outbound packet finds of its source. A live mapping is refreshed (RFC 4787, REQ-6). One that is idle
+    /// is removed. Where there is none, the first idle mapping of the table is removed, in first-seen order, if there is
+    /// one; it may be of the other protocol.
     pub fn find(&mut self, key: &Endpoint, now: u64) -> Find
         ensures { (result, self.new) ≡ find key.now now self.old }
     {
@@ -321,7 +321,7 @@ impl Forward {
         Ok(())
     }
 
-    /// Whether the endpoint is mapped to this outside port, and the mapping is not idle. It refreshes nothing.
+    /// Whether the endpoint is mapped to this outside port, and the mapping is live. It refreshes nothing.
     pub fn lives(&self, key: &Endpoint, port: u16, now: u64) -> bool
         ensures { result ≡ lives key.now port now self.now }
     {
@@ -351,8 +351,8 @@ impl Forward {
         count
     }
 
-    /// The first of the mappings of the endpoint's host that is idle. It looks at no row of a mapping that is not idle,
-    /// whoever has it.
+    /// The first of the mappings of the endpoint's host that is idle. It looks at no live mapping, whose
+    /// it may be.
     pub(crate) fn first_idle_of(&mut self, key: &Endpoint, now: u64) -> Option<(Endpoint, Slot)>
         ensures first { result ≡ first_idle_of key.now now self.old }
         ensures same { self.new ≡ self.old }

@@ -89,7 +89,7 @@ impl Mappings {
         self.table.slot_of(key)
     }
 
-    /// Whether the endpoint is mapped to this outside port, and the mapping is not idle. It refreshes nothing.
+    /// Whether the endpoint is mapped to this outside port, and the mapping is live. It refreshes nothing.
     pub fn lives(&self, key: &Endpoint, port: u16, now: u64) -> bool
         ensures { result ≡ lives key.now port now self.now }
     {

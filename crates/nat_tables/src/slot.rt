@@ -117,7 +117,7 @@ impl Slot {
         self.last.saturating_add(self.phase.timer(key.protocol) - 1)
     }
 
-    /// The last time at which this mapping of the endpoint is not idle, of those that there are.
+    /// The last time at which this mapping of the endpoint is live, of those that there are.
     pub(crate) fn live_until(&self, key: &Endpoint) -> u64
         ensures live { IsLiveUntil result (Some (key.now, self.now)) }
         ensures last { (now : ℕ) → now < 2 ^ 64 → is_idle now (key.now, self.now) ≡ false
