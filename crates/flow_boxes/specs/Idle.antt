@@ -12,8 +12,7 @@ abbrev pub idle_by_protocol : ℕ → ℕ
 idle_by_protocol protocol = if protocol == 6 then microseconds 7440 else microseconds 300
 
 -- So long where no connection is followed, or one was established and has not ended; else its own number of seconds,
--- and at least one. `Opening` and `Established` are phases of the NAT alone, and those that a side ended of the balancer
--- alone.
+-- and at least one. `Opening` and `Established` are phases of the NAT alone, those that a side ended of the balancer.
 abbrev pub idle_after : ℕ → Phase → ℕ
 idle_after protocol Plain = idle_by_protocol protocol
 idle_after protocol (Opening seconds) = microseconds (max 1 seconds)

@@ -67,7 +67,8 @@ pub live_cleared : (times : List ℕ) (rows : List Row) (at : ℕ) → AreLiveUn
     → AreLiveUntil times (set rows at None)
 live_cleared times rows at live = row_changed times rows at None live (λ inside. tt)
 
-pub live_refreshed : (times : List ℕ) (rows : List Row) (at now : ℕ) (own : Endpoint) (slot : Slot) → AreLiveUntil times rows
+pub live_refreshed : (times : List ℕ) (rows : List Row) (at now : ℕ) (own : Endpoint) (slot : Slot)
+    → AreLiveUntil times rows
     → row_at rows at ≡ Some (own, slot) → AreLiveUntil times (set rows at (Some (own, refreshed now slot)))
 live_refreshed times rows at now own slot live is =
     row_changed times rows at (Some (own, refreshed now slot)) live
@@ -197,7 +198,8 @@ first_is now (None ∷ rows) zero entry first is = absurd (cc)
 first_is now (Some e ∷ rows) zero entry first is = rw first.idle is
 first_is now (None ∷ rows) (suc at) entry first is = first_is now rows at entry (later_first now None rows at first) is
 first_is now (Some e ∷ rows) (suc at) entry first is =
-    rw (first.others 0 (omega arith) (omega arith)) (first_is now rows at entry (later_first now (Some e) rows at first) is)
+    rw (first.others 0 (omega arith) (omega arith))
+    (first_is now rows at entry (later_first now (Some e) rows at first) is)
 
 pub first_removed : (now : ℕ) (rows : List Row) (at : ℕ) → IsFirstIdle 0 now rows at
     → without_idle now (present rows) ≡ present (set rows at None)

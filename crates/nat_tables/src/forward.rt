@@ -74,8 +74,8 @@ fn live_until(row: Option<(Endpoint, Slot)>) -> u64
     }
 }
 
-/// The row of the first mapping that is idle, of those in this row and the later ones. What was noted of the rows before
-/// it, and is too early, is corrected.
+/// The row of the first mapping that is idle, of those in this row and the later ones. What was noted of the rows
+/// before it, and is too early, is corrected.
 fn first_idle(
     slots: &FirstSeen<Endpoint, Slot>,
     live: &mut Times,
@@ -264,8 +264,8 @@ impl Forward {
     }
 
     /// What an outbound packet finds of its source. A live mapping is refreshed (RFC 4787, REQ-6). One that is idle
-    /// is removed. Where there is none, the first idle mapping of the table is removed, in first-seen order, if there is
-    /// one; it may be of the other protocol.
+    /// is removed. Where there is none, the first idle mapping of the table is removed, in first-seen order, if there
+    /// is one; it may be of the other protocol.
     pub fn find(&mut self, key: &Endpoint, now: u64) -> Find
         ensures { (result, self.new) ≡ find key.now now self.old }
     {

@@ -17,7 +17,8 @@ returns-in-Some t c =
     rw c.deref.ensures at c.in-Some.ensures in
     rw (← c.self.view_is)
     (first_by_pair c.args.start c.args.now c.in-Some.pair c.first_of.result _ _ (omega arith) are
-    (not_before c.args.now _ _ c.time_at.ensures c.if-time_at-now.false) first c.first_of.ensures.left c.first_of.ensures.right)
+    (not_before c.args.now _ _ c.time_at.ensures c.if-time_at-now.false) first c.first_of.ensures.left
+    c.first_of.ensures.right)
 
 pub returns-in-None : goal.returns-in-None
 returns-in-None t c =
@@ -25,4 +26,5 @@ returns-in-None t c =
     let none : AreFrom (next_pair c.args.start) c.args.now c.in-Of.pairs.value =
     rw c.deref.ensures at c.in-None.ensures in
     rw (← c.self.view_is)
-    (from_pairs c.args.start c.args.now _ _ are (not_before c.args.now _ _ c.time_at.ensures c.if-time_at-now.false) none)
+    (from_pairs c.args.start c.args.now _ _ are
+    (not_before c.args.now _ _ c.time_at.ensures c.if-time_at-now.false) none)
