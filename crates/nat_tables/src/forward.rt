@@ -351,8 +351,8 @@ impl Forward {
         count
     }
 
-    /// The first of the mappings of the endpoint's host that is idle. It looks at no live mapping, whose
-    /// it may be.
+    /// The first of the mappings of the endpoint's host that is idle. It looks at no live mapping,
+    /// whoever has it.
     pub(crate) fn first_idle_of(&mut self, key: &Endpoint, now: u64) -> Option<(Endpoint, Slot)>
         ensures first { result ≡ first_idle_of key.now now self.old }
         ensures same { self.new ≡ self.old }

@@ -154,8 +154,8 @@ impl Mappings {
     }
 
     /// What is found of a source that has no mapping and whose host has as many as it may have: the first of the host's
-    /// that is idle is removed, in first-seen order, if there is one. Where there is none, no mapping is removed, whose
-    /// it may be.
+    /// that is idle is removed, in first-seen order, if there is one. Where there is none, no mapping is removed,
+    /// whoever has it.
     fn find_of_full(&mut self, key: &Endpoint, now: u64) -> Find
         ensures { (result, self.new)
             ≡ given_up self.old (first_idle_of key.now now self.old) }
