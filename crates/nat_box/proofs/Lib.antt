@@ -1,3 +1,4 @@
+pub mod BoxLemmas
 pub mod Effects
 pub mod Following
 pub mod Noting
