@@ -1,15 +1,14 @@
 -- The first time before another, by that of the pairs.
 use Rattle.std.proofs.Common.{◌≡◌, ◌==◌, ℕ, ◌+◌, ◌*◌, ◌/◌, ◌%◌, ◌<◌, ◌≤◌, Bool, true, false, List, length, refl, sym}
 use Rattle.std.proofs.Common.{subst, arith, ⊎_elim}
-use Rattle.std.specs.Prelude.{nat_lt}
 use Rattle.std.proofs.lemmas.Bool.{eqb-true, cases_lt}
 use Rattle.std.proofs.lemmas.Bool.Decides.{nat_tests}
 use Rattle.std.proofs.lemmas.List.{get_or_past}
 use Rattle.nat_tables.specs.Times.{never, time_at, ArePairs, AreFrom, IsFirstBefore}
 
--- a time that is found not to be before another is from this one on
-pub not_before : (now time found : ℕ) → found ≡ time → nat_lt found now ≡ false → now ≤ time
-not_before now time found is before = let from : now ≤ found = grind (arith, nat_tests) in omega (arith, is, from)
+-- a time that is found is from another on
+pub found_from : (now time found : ℕ) → found ≡ time → now ≤ found → now ≤ time
+found_from now time found is from = omega (arith, is, from)
 
 -- where a pair is from a time on, so are both of its times
 left_from : (now pair : ℕ) (pairs times : List ℕ) → ArePairs pairs times → now ≤ time_at pairs pair

@@ -1,6 +1,6 @@
 use Rattle.std.proofs.Common.{arith}
 use Rattle.nat_tables.specs.Times.{AreFrom, IsFirstBefore, ArePairs}
-use Rattle.nat_tables.proofs.TimesLemmas.{next_pair, from_pairs, first_by_pair, left_inside, not_before}
+use Rattle.nat_tables.proofs.TimesLemmas.{next_pair, from_pairs, first_by_pair, left_inside, found_from}
 use Rattle.nat_tables.proofs.times.Times.+first_before.Goals as goal
 
 pub first_of-requires : goal.first_of-requires
@@ -17,7 +17,7 @@ returns-in-Some t c =
     rw c.deref.ensures at c.in-Some.ensures in
     rw (← c.self.view_is)
     (first_by_pair c.args.start c.args.now c.in-Some.pair c.first_of.result _ _ (omega arith) are
-    (not_before c.args.now _ _ c.time_at.ensures c.if-time_at-now.false) first c.first_of.ensures.left
+    (found_from c.args.now _ _ c.time_at.ensures c.if-time_at-now.false) first c.first_of.ensures.left
     c.first_of.ensures.right)
 
 pub returns-in-None : goal.returns-in-None
@@ -27,4 +27,4 @@ returns-in-None t c =
     rw c.deref.ensures at c.in-None.ensures in
     rw (← c.self.view_is)
     (from_pairs c.args.start c.args.now _ _ are
-    (not_before c.args.now _ _ c.time_at.ensures c.if-time_at-now.false) none)
+    (found_from c.args.now _ _ c.time_at.ensures c.if-time_at-now.false) none)
