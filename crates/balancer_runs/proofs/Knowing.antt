@@ -37,8 +37,6 @@ use Rattle.flow_boxes.proofs.Fitting.{IsWhole, whole}
 use Rattle.balancer_runs.specs.Choosing.{loads_met_in, loads_met_by, loads_met}
 use Rattle.balancer_runs.proofs.Known.{KnownAt, Known, known_on, after_touch, touch_known, after_clock, clock_known}
 
-  clock_known r met Ends a n e k = absurd (cc)
-
 -- The beginning: the fields of a frame of bytes fit
 
 module _ (s : Settings) (is : AreSettings s) where

@@ -442,3 +442,4 @@ module _ (s : Settings) (p : Packet) where
   clock_known r met ChecksConnection a n e k = absurd (cc)
   clock_known r met CountsDrop a n e k = absurd (cc)
   clock_known r met SendsOut a n e k = absurd (cc)
+  clock_known r met Ends a n e k = absurd (cc)

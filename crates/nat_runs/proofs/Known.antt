@@ -254,3 +254,4 @@ pub given_outward : (c : Class) (X : Type 0) → X → IfOutward c X
 given_outward Outbound X x = x
 given_outward Hairpin X x = x
 given_outward Inbound X x = tt
+given_outward OutboundError X x = tt

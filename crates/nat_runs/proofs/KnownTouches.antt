@@ -55,8 +55,6 @@ use Rattle.nat_runs.proofs.Known.{IsBase, IsOnWay, WasUnmapped, IsWanting, Refre
 use Rattle.nat_runs.proofs.Known.{IsToCount, KnownAt, bound_at, mapping_at, free_elsewhere, outward_flow, from_inside}
 use Rattle.nat_runs.proofs.Known.{goes_inside, IsMappingPlace, find_place, bind_place, given_outward}
 
-given_outward OutboundError X x = tt
-
 module _ (s : Settings) (p : Packet) where
   pub base_on : (n o : Noted) → o.class ≡ n.class → o.source ≡ n.source → o.dest_port ≡ n.dest_port
       → o.segment ≡ n.segment → IsBase s p n → IsBase s p o
