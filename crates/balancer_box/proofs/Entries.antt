@@ -26,7 +26,8 @@ use Rattle.balancer_box.specs.declared.value.BalancerValue.{BalancerValue}
 use Rattle.balancer_box.specs.declared.value.BalancerValue.TheVariants.{Dropped, Loaded, Connected}
 use Rattle.balancer_box.specs.Connections.{closed, without_if}
 use Rattle.balancer_box.specs.Places.{place_numbered}
-use Rattle.balancer_box.specs.Balancer.{Settings, phase_then, gives_way, met, met_there, met_by, new_slot}
+use Rattle.balancer_box.specs.Settings.{Settings}
+use Rattle.balancer_box.specs.Balancer.{phase_then, gives_way, met, met_there, met_by, new_slot}
 use Rattle.balancer_box.specs.Balancer.{connected_by, checked_there, checked_by, finds, connects, checks, touched}
 use Rattle.balancer_box.specs.Balancer.{noted_by, balancer_meaning, MayConnect, Fits}
 use Rattle.balancer_box.specs.Lawful.{balancer_lawful}

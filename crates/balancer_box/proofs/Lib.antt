@@ -4,6 +4,8 @@ pub mod ConnectionLemmas
 pub mod CountLemmas
 pub mod Noting
 pub mod Making
+pub mod TableCharges
 pub mod Charging
 pub mod Entries
+pub mod Sendings
 pub mod Emissions

@@ -11,9 +11,9 @@ use Rattle.balancer_box.specs.Places.{place_numbered}
 use Rattle.balancer_box.specs.declared.place.Goes.{Goes}
 use Rattle.balancer_box.specs.declared.place.Place.TheVariants.{Ends}
 use Rattle.balancer_box.specs.declared.value.BalancerValue.{BalancerValue}
-use Rattle.balancer_box.specs.Balancer.{Settings, goes, next_move, begun, touched, told, local_at, noted_by}
-use Rattle.balancer_box.specs.Balancer.{balancer_meaning}
-use Rattle.balancer_box.specs.Lawful.{reads_none, draws_none}
+use Rattle.balancer_box.specs.Settings.{Settings}
+use Rattle.balancer_box.specs.Balancer.{goes, next_move, begun, touched, told, local_at, noted_by, balancer_meaning}
+use Rattle.balancer_box.specs.Ranks.{reads_none, draws_none}
 
 abbrev pub goes_on : Hand → Goes → Option Hand
 goes_on h g = Some (record { packet = h.packet; place = local_at g })

@@ -16,7 +16,8 @@ use Rattle.balancer_box.specs.declared.place.Noted.{Noted}
 use Rattle.balancer_box.specs.declared.value.BalancerValue.{BalancerValue}
 use Rattle.balancer_box.specs.declared.value.BalancerValue.TheVariants.{Dropped, Loaded, Connected}
 use Rattle.balancer_box.specs.Loads.{least_loaded}
-use Rattle.balancer_box.specs.Balancer.{Settings, begins, goes_to, after_find, after_bind, after_check, touched}
+use Rattle.balancer_box.specs.Settings.{Settings}
+use Rattle.balancer_box.specs.Balancer.{begins, goes_to, after_find, after_bind, after_check, touched}
 use Rattle.balancer_box.specs.Balancer.{ends, after_idle, gives_way, met, met_there, met_by, new_slot, gives_up}
 use Rattle.balancer_box.specs.Balancer.{connected_by, checked_there, checked_by, finds, connects, checks}
 use Rattle.balancer_box.specs.Balancer.{after_time, told, MayConnect, Fits}

@@ -22,7 +22,7 @@ use Rattle.nat_tables.specs.declared.entries.Bind.TheVariants.{Bound, Other}
 use Rattle.nat_tables.specs.Forwards.{Forwards, is_idle, slot_of, refresh, with_phase, without, first_idle}
 use Rattle.nat_tables.specs.Forwards.{without_idle, find_or_bind, lives_at, AreMappings}
 use Rattle.flow_boxes.specs.Drops.{reason_of, with_drop, no_drops, stray}
-use Rattle.balancer_box.specs.declared.backends.Backend.{Backend}
+use Rattle.balancer_box.specs.declared.settings.Backend.{Backend}
 use Rattle.balancer_box.specs.declared.place.Place.{Place}
 use Rattle.balancer_box.specs.declared.place.Place.TheVariants.{HearsTime, FindsConnection, LowersIdle, RaisesLeast}
 use Rattle.balancer_box.specs.declared.place.Place.TheVariants.{Connects, LowersSpare, ChecksConnection, CountsDrop}
@@ -35,22 +35,12 @@ use Rattle.balancer_box.specs.declared.place.Noted.{Noted}
 use Rattle.balancer_box.specs.declared.place.Goes.{Goes}
 use Rattle.balancer_box.specs.declared.value.BalancerValue.{BalancerValue}
 use Rattle.balancer_box.specs.declared.value.BalancerValue.TheVariants.{Dropped, Loaded, Connected}
+use Rattle.balancer_box.specs.Settings.{Settings}
 use Rattle.balancer_box.specs.Loads.{raised, lowered, least_loaded, no_loads}
 use Rattle.balancer_box.specs.Connections.{find_connection, check_connection, has_ended, phase_told}
 use Rattle.flow_boxes.specs.Flows.{endpoint}
 use Rattle.balancer_box.specs.Places.{place_numbered, noted, local_of}
 use Rattle.balancer_box.specs.Shown.{shown_value}
-
-pub record Settings : Type 0 where
-  -- how many connection tables there are
-  pub shards : ℕ
-  -- the virtual address and port, to which clients send
-  pub address : ℕ
-  pub port : ℕ
-  pub backends : List Backend
-  -- for how many seconds a TCP connection that has ended is kept without use; where there is none, connections are not
-  -- followed
-  pub closing : Option ℕ
 
 abbrev pub goes : Place → Noted → Goes
 goes place n = record { place = place; noted = n }

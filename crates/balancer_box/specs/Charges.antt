@@ -18,8 +18,8 @@ use Rattle.balancer_box.specs.declared.value.BalancerValue.{BalancerValue}
 use Rattle.balancer_box.specs.declared.value.BalancerValue.TheVariants.{Dropped, Loaded, Connected}
 use Rattle.balancer_box.specs.Connections.{has_ended}
 use Rattle.balancer_box.specs.Places.{place_numbered}
-use Rattle.balancer_box.specs.Balancer.{Settings, noted_by, balancer_meaning}
-use Rattle.balancer_box.specs.Lawful.{AreSettings}
+use Rattle.balancer_box.specs.Settings.{Settings, AreSettings}
+use Rattle.balancer_box.specs.Balancer.{noted_by, balancer_meaning}
 
 -- Of a value: the load of the backend, and how many connections name it that have not ended
 

@@ -22,13 +22,13 @@ abbrev pub closed : Find → Bool → Endpoint → Forwards → Forwards
 closed (Live backend) resets key es = without_if resets key es
 closed (Absent idle) resets key es = es
 
--- What a client's packet finds: a connection that is there and not idle is refreshed, and closed in the same touch
+-- What a client's packet finds: a live connection is refreshed, and closed in the same touch
 -- where the packet resets it. One that is idle is removed; where there is none, the first idle one of the table is
 -- removed.
 abbrev pub find_connection : Bool → Endpoint → ℕ → Forwards → Find × Forwards
 find_connection resets key now es = let r = find key now es in (r.0, closed r.0 resets key r.1)
 
--- What an answer finds: whether the client's connection is there, not idle, and of this backend. It refreshes nothing,
+-- What an answer finds: whether the client's connection is there, live, and of this backend. It refreshes nothing,
 -- and closes the connection where it resets it.
 abbrev pub check_connection : Bool → Endpoint → ℕ → ℕ → Forwards → Bool × Forwards
 check_connection resets key backend now es =

@@ -14,11 +14,11 @@ use Rattle.nat_tables.specs.declared.entries.Endpoint.{Endpoint}
 use Rattle.nat_tables.specs.declared.slot.Slot.{Slot}
 use Rattle.nat_tables.specs.Forwards.{Forwards, slot_of, lives}
 use Rattle.flow_boxes.specs.Flows.{HaveBytes, source_of, dest_of}
-use Rattle.balancer_box.specs.declared.backends.Backend.{Backend}
+use Rattle.balancer_box.specs.declared.settings.Backend.{Backend}
 use Rattle.balancer_box.specs.declared.value.BalancerValue.{BalancerValue}
 use Rattle.balancer_box.specs.declared.value.BalancerValue.TheVariants.{Dropped, Loaded, Connected}
-use Rattle.balancer_box.specs.Balancer.{Settings, is_virtual, backend_at, resets, balancer_meaning}
-use Rattle.balancer_box.specs.Lawful.{AreSettings}
+use Rattle.balancer_box.specs.Settings.{Settings, AreSettings}
+use Rattle.balancer_box.specs.Balancer.{is_virtual, backend_at, resets, balancer_meaning}
 
 -- What the moves of a packet in hand met: the connection table as its newest touch of one found it and left it, and the
 -- time that it was told.
@@ -69,7 +69,7 @@ abbrev pub WasConnected : Option Forwards → Endpoint → ℕ → Type 0
 WasConnected table client number =
     (es : Forwards) × (slot : Slot) × (table ≡ Some es) × (slot_of client es ≡ Some slot) × (slot.port ≡ number)
 
--- the client's connection to the backend of this number was there, and not idle, at the packet's last touch of its
+-- the client's connection to the backend of this number was there, and live, at the packet's last touch of its
 -- table
 abbrev pub Lived : Trail → Endpoint → ℕ → Type 0
 Lived r client number =

@@ -1,8 +1,10 @@
+pub mod Settings
 pub mod Loads
 pub mod Connections
 pub mod Places
 pub mod Balancer
 pub mod Noting
+pub mod Ranks
 pub mod Lawful
 pub mod Shown
 pub mod Boxes

@@ -54,6 +54,10 @@ abbrev pub tells_numbered : ℕ → Tells
 tells_numbered number =
     if number == 0 then Nothing else if number == 1 then Opens else if number == 2 then Finishes else Resets
 
+-- the register in which a packet that is counted as dropped has the reason
+abbrev pub reason_register : ℕ
+reason_register = 8
+
 -- what the Local has noted, with this number of backends
 abbrev pub noted : ℕ → Local → Noted
 noted backends l = record {
@@ -63,7 +67,7 @@ noted backends l = record {
   time = slice_index l.regs 5;
   backend = slice_index l.regs 6 % backends;
   spare = slice_index l.regs 7 % backends;
-  reason = slice_index l.regs 8;
+  reason = slice_index l.regs reason_register;
   tells = tells_numbered (slice_index l.regs 9);
 }
 

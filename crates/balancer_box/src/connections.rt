@@ -37,7 +37,7 @@ impl Connections {
         }
     }
 
-    /// What a client's packet finds. A connection that is there and not idle is refreshed, and closed where the packet
+    /// What a client's packet finds. A live connection is refreshed, and closed where the packet
     /// resets it. One that is idle is removed. Where there is none, the first idle connection of the table is removed,
     /// in first-seen order, if there is one. The answer has the number of the backend in place of a port.
     pub fn find(&mut self, client: &Endpoint, now: u64, resets: bool) -> Find

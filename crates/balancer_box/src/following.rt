@@ -5,10 +5,8 @@ ghost use Rattle.balancer_box.specs.Balancer.{gives_way, new_slot, gives_up, con
 
 use crate::{Class, Connections, Goes, Noted, Place, Tells};
 use nat_tables::{Phase, Slot};
+use packet_headers::TCP;
 use plain_text::NoMemory;
-
-/// TCP, which alone has control bits.
-const TCP: u8 = 6;
 
 /// Whether a connection has ended: both sides finished it, or one reset it.
 fn has_ended(phase: Phase) -> bool

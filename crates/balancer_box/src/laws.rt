@@ -26,7 +26,7 @@ pub fn connections_keep_their_backends()
 /// What goes out of a run on packets of bytes is the translation (RFC 3022, section 4.1) of the thread's input of that
 /// number. A client's packet goes to the backend that its connection named at the packet's last touch of the table. An
 /// answer comes from the virtual address and port, and goes to a client whose connection to the answer's backend was
-/// there, and not idle, at that touch, at the time that the packet was told.
+/// there, and live, at that touch, at the time that the packet was told.
 pub fn emissions_follow_connections()
     ensures { EmissionsFollowConnections }
 {}

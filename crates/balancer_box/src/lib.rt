@@ -1,7 +1,6 @@
 //! The box `balancer`, which spreads the clients of one virtual address and port over backends.
 #![tactic(auto)]
 
-mod backends;
 mod balancer;
 mod connections;
 mod following;
@@ -10,10 +9,10 @@ mod loads;
 mod place;
 mod program;
 mod sending;
+mod settings;
 mod touching;
 mod value;
 
-pub use backends::{Backend, Backends, MOST_BACKENDS};
 pub use balancer::BalancerBox;
 pub use connections::Connections;
 pub use laws::{
@@ -21,5 +20,6 @@ pub use laws::{
     loads_are_charges,
 };
 pub use loads::Loads;
-pub use place::{Class, Goes, Noted, Place, Tells};
+pub use place::{Class, Goes, Noted, Place, REASON_REGISTER, Tells};
+pub use settings::{Backend, BalancerSettings, no_backends};
 pub use value::BalancerValue;

@@ -6,6 +6,9 @@ ghost use Rattle.balancer_box.specs.Places.{noted, local_of};
 use box_program::Local;
 use nat_tables::Endpoint;
 
+/// The register of a Local in which a packet that is counted as dropped has the reason.
+pub const REASON_REGISTER: usize = 8;
+
 /// What is done next with a packet.
 #[derive(Clone, Copy, Debug, PartialEq, Eq)]
 pub enum Place {
@@ -177,7 +180,7 @@ impl Noted {
             time: local.regs[5],
             backend: (local.regs[6] % backends) as u16,
             spare: (local.regs[7] % backends) as u16,
-            reason: local.regs[8],
+            reason: local.regs[REASON_REGISTER],
             tells: Tells::numbered(local.regs[9]),
         }
     }

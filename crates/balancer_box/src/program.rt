@@ -1,6 +1,5 @@
 ghost use Rattle.std.specs.Prelude.{◌≡◌};
 ghost use Rattle.balancer_box.specs.Balancer.{noted_by};
-ghost use Rattle.balancer_box.specs.Boxes.{settings_of};
 
 use crate::{BalancerBox, BalancerValue, Connections, Goes, Loads, Noted, Place};
 use box_program::{Local, Move, Program};
@@ -12,7 +11,7 @@ use std::alloc::Global;
 impl BalancerBox {
     /// What a Local has noted.
     fn noted(&self, local: &Local) -> Noted
-        ensures { result ≡ noted_by (settings_of self.now) local.now }
+        ensures { result ≡ noted_by self.now.settings local.now }
     {
         Noted::read_from(local, self.backend_count())
     }
@@ -21,25 +20,25 @@ impl BalancerBox {
 impl Program for BalancerBox {
     ghost use Rattle.std.specs.Prelude.{◌≡◌, ◌≤◌};
     ghost use Rattle.balancer_box.specs.Balancer.{Fits};
-    ghost use Rattle.balancer_box.specs.Boxes.{settings_of, box_meaning, box_lawful};
+    ghost use Rattle.balancer_box.specs.Boxes.{box_meaning, box_lawful};
 
     type Value = BalancerValue;
 
     ghost meaning = { box_meaning };
 
-    ghost fits = { λ b. Fits (settings_of b) };
+    ghost fits = { λ b. Fits b.settings };
 
     ghost lawful = { box_lawful };
 
     fn vars(&self) -> u32 {
-        2 + self.shards
+        2 + self.settings.shards
     }
 
     fn fresh(&self, alloc: Global, var: u32) -> Result<BalancerValue, NoMemory> {
         if var == 0 {
             Ok(BalancerValue::Dropped(Drops::new()))
         } else if var == 1 {
-            Ok(BalancerValue::Loaded(Loads::new(alloc, self.backends.len())?))
+            Ok(BalancerValue::Loaded(Loads::new(alloc, self.settings.backends.len())?))
         } else {
             Ok(BalancerValue::Connected(Connections::new(alloc)))
         }
@@ -77,7 +76,7 @@ impl Program for BalancerBox {
             BalancerValue::Dropped(drops) => noted.touch_drops(place, drops),
             BalancerValue::Loaded(loads) => noted.touch_loads(place, loads),
             BalancerValue::Connected(table) => {
-                noted.touch_connections(self.closing, place, table)?
+                noted.touch_connections(self.settings.closing, place, table)?
             }
         };
         *local = goes.local();

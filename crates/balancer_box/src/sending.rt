@@ -3,7 +3,6 @@ ghost use Rattle.packet_headers.specs.Rewriting.{CanRewrite};
 ghost use Rattle.balancer_box.specs.Balancer.{begun, begun_flow, frame_to, frame_out, bytes_out};
 ghost use Rattle.balancer_box.specs.Balancer.{of_client, of_answer, resets, nothing_noted};
 ghost use Rattle.balancer_box.specs.Balancer.{tells_of, tells_by};
-ghost use Rattle.balancer_box.specs.Boxes.{settings_of};
 
 use crate::{Backend, BalancerBox, Class, Goes, Noted, Place, Tells};
 use flow_boxes::{STRAY, reason_of};
@@ -108,9 +107,9 @@ fn tells_of(flags: u8) -> Tells
 impl BalancerBox {
     /// What a segment tells, where connections are followed.
     fn tells(&self, flow: &Flow) -> Tells
-        ensures { result ≡ tells_by (settings_of self.now).closing flow.now.flags }
+        ensures { result ≡ tells_by self.now.settings.closing flow.now.flags }
     {
-        match self.closing {
+        match self.settings.closing {
             Some(_) => tells_of(flow.flags),
             None => Tells::Nothing,
         }
@@ -118,7 +117,7 @@ impl BalancerBox {
 
     /// Where a packet begins, by its view.
     pub(crate) fn begun(&self, seen: Result<Flow, NotFlow>) -> Goes
-        ensures { result ≡ begun (settings_of self.now) seen }
+        ensures { result ≡ begun self.now.settings seen }
     {
         match seen {
             Ok(flow) => self.begun_flow(self.tells(&flow), &flow),
@@ -127,7 +126,7 @@ impl BalancerBox {
     }
     /// Where a flow begins: from its client, or from its backend; else it is dropped as stray.
     fn begun_flow(&self, tells: Tells, flow: &Flow) -> Goes
-        ensures { result ≡ begun_flow (settings_of self.now) tells flow.now }
+        ensures { result ≡ begun_flow self.now.settings tells flow.now }
     {
         if self.is_virtual(flow.dest, flow.dest_port) {
             return Goes::to(Place::HearsTime, Noted::of_client(tells, flow));
@@ -143,9 +142,13 @@ impl BalancerBox {
 
     /// The backend of a number.
     fn backend(&self, number: u16) -> Option<Backend>
-        ensures { result ≡ slice_get self.now.backends number }
+        ensures { result ≡ slice_get self.now.settings.backends number }
     {
-        self.backends.as_slice().get(usize::from(number)).copied()
+        self.settings
+            .backends
+            .as_slice()
+            .get(usize::from(number))
+            .copied()
     }
 
     /// Translates a flow's frame (RFC 3022, section 4.1): a client's frame goes to its backend, and an answer comes
@@ -153,7 +156,7 @@ impl BalancerBox {
     fn translate(&self, frame: &mut [u8], flow: &Flow, noted: &Noted)
         requires { CanRewrite frame.old flow.now }
         ensures { frame.new
-            ≡ frame_out (settings_of self.now) noted.now.class frame.old flow.now noted.now }
+            ≡ frame_out self.now.settings noted.now.class frame.old flow.now noted.now }
     {
         match noted.class {
             Class::Client => {
@@ -161,7 +164,7 @@ impl BalancerBox {
                     set_dest(frame, flow, backend.address, backend.port);
                 }
             }
-            Class::Answer => set_source(frame, flow, self.address, self.port),
+            Class::Answer => set_source(frame, flow, self.settings.address, self.settings.port),
         }
     }
 
@@ -175,7 +178,7 @@ impl BalancerBox {
     ) -> Result<Bytes, NoMemory>
         requires { CanRewrite frame.now flow.now }
         ensures { IfOk result (λ bytes. bytes
-            ≡ frame_out (settings_of self.now) noted.now.class frame.now flow.now noted.now) }
+            ≡ frame_out self.now.settings noted.now.class frame.now flow.now noted.now) }
     {
         let mut copy = Vec::from_slice(alloc, frame)?;
         self.translate(&mut copy, flow, noted);
@@ -192,7 +195,7 @@ impl BalancerBox {
     ) -> Result<Bytes, NoMemory>
         requires { IfOk seen (λ flow. CanRewrite frame.now flow) }
         ensures { IfOk result (λ bytes. bytes
-            ≡ bytes_out (settings_of self.now) frame.now noted.now seen) }
+            ≡ bytes_out self.now.settings frame.now noted.now seen) }
     {
         match seen {
             Ok(flow) => self.translated(alloc, frame, &flow, noted),

@@ -1,6 +1,6 @@
 -- A connection stays until it is idle or reset, and a new one is to a backend of least load.
-use Rattle.std.proofs.Common.{◌≡◌, ℕ, Bool, true, false, List, [], ◌∷◌, refl, sym, ap, ◌∙◌, subst, ◌⊎◌}
-use Rattle.std.proofs.Common.{inl, inr, arith, ◌≤◌, Option, Some, None}
+use Rattle.std.proofs.Common.{◌≡◌, ℕ, Bool, true, false, List, [], ◌∷◌, refl, sym, ap, ◌∙◌, subst, ◌⊎◌, inl, inr, arith}
+use Rattle.std.proofs.Common.{◌≤◌, Option, Some, None}
 use Rattle.std.specs.Prelude.{nat_eq, cond, ◌&&◌, ◌++◌}
 use Rattle.std.proofs.lemmas.Bool.{eqb-true}
 use Rattle.plain_text.specs.declared.packet.Packet.{Packet}
@@ -13,10 +13,10 @@ use Rattle.plain_machine.proofs.Bounds.{values_fit}
 use Rattle.nat_tables.specs.declared.entries.Endpoint.{Endpoint}
 use Rattle.nat_tables.specs.declared.slot.Slot.{Slot}
 use Rattle.nat_tables.specs.declared.phase.Phase.{Phase}
-use Rattle.nat_tables.specs.declared.phase.Phase.TheVariants.{Plain, Opening, Established, Closing}
-use Rattle.nat_tables.specs.declared.phase.Phase.TheVariants.{EndedByClient, EndedByServer, Kept}
-use Rattle.nat_tables.specs.Forwards.{Forwards, is_idle, slot_of, refresh, first_idle, found_there, found, bound}
-use Rattle.nat_tables.specs.Forwards.{lives, lives_at, without, without_idle, AreMappings}
+use Rattle.nat_tables.specs.declared.phase.Phase.TheVariants.{Plain, Opening, Established, Closing, EndedByClient}
+use Rattle.nat_tables.specs.declared.phase.Phase.TheVariants.{EndedByServer, Kept}
+use Rattle.nat_tables.specs.Forwards.{Forwards, is_idle, slot_of, refresh, first_idle, found_there, found, bound, lives}
+use Rattle.nat_tables.specs.Forwards.{lives_at, without, without_idle, AreMappings}
 use Rattle.balancer_box.specs.declared.place.Place.{Place}
 use Rattle.balancer_box.specs.declared.place.Place.TheVariants.{HearsTime, FindsConnection, LowersIdle, RaisesLeast}
 use Rattle.balancer_box.specs.declared.place.Place.TheVariants.{Connects, LowersSpare, ChecksConnection, CountsDrop}
@@ -27,11 +27,11 @@ use Rattle.balancer_box.specs.declared.value.BalancerValue.{BalancerValue}
 use Rattle.balancer_box.specs.declared.value.BalancerValue.TheVariants.{Dropped, Loaded, Connected}
 use Rattle.balancer_box.specs.Connections.{closed, without_if, has_ended}
 use Rattle.balancer_box.specs.Places.{place_numbered}
-use Rattle.balancer_box.specs.Balancer.{Settings, next_move, heard, phase_then, noting, opens, gives_way}
-use Rattle.balancer_box.specs.Balancer.{met as met_connection, met_there, met_by, new_slot, connected_by}
-use Rattle.balancer_box.specs.Balancer.{checked_there, checked_by, finds, connects, checks, touched, noted_by}
-use Rattle.balancer_box.specs.Balancer.{balancer_meaning, MayConnect, Fits}
-use Rattle.balancer_box.specs.Lawful.{AreSettings, balancer_lawful}
+use Rattle.balancer_box.specs.Settings.{Settings, AreSettings}
+use Rattle.balancer_box.specs.Balancer.{next_move, heard, phase_then, noting, opens, gives_way, met as met_connection}
+use Rattle.balancer_box.specs.Balancer.{met_there, met_by, new_slot, connected_by, checked_there, checked_by, finds}
+use Rattle.balancer_box.specs.Balancer.{connects, checks, touched, noted_by, balancer_meaning, MayConnect, Fits}
+use Rattle.balancer_box.specs.Lawful.{balancer_lawful}
 use Rattle.balancer_box.specs.Entries.{connections_in}
 use Rattle.balancer_box.specs.Emissions.{Trail, trail_of}
 use Rattle.balancer_box.proofs.ConnectionLemmas.{without_refreshed, lives_there}
@@ -41,8 +41,9 @@ use Rattle.balancer_runs.specs.Choosing.{loads_met, WasChosen, IsFromClient, New
 use Rattle.balancer_runs.proofs.Tables.{idle_is, Goes, GoAll, all_stay, all_used, all_without, all_without_idle}
 use Rattle.balancer_runs.proofs.Tables.{all_append, NoneComes, none_by_refresh, none_by_without, none_by_without_idle}
 use Rattle.balancer_runs.proofs.Tables.{all_in_phase, none_by_in_phase, in_phase_had, new_appended}
-use Rattle.balancer_runs.proofs.Knowing.{IsBase, IsTold, KnownAt, Known, has_reset, has_opening, heard_opens, both}
-use Rattle.balancer_runs.proofs.Knowing.{client_of, answer_of, run_known}
+use Rattle.balancer_runs.proofs.Known.{IsBase, IsTold, KnownAt, Known, has_reset, has_opening, heard_opens, both}
+use Rattle.balancer_runs.proofs.Known.{client_of, answer_of}
+use Rattle.balancer_runs.proofs.Knowing.{run_known}
 
 same_stays : (s : Settings) (clock : Option ℕ) (hand : Option Hand) (client : Endpoint) (slot : Slot) (o : Option Slot)
     → o ≡ Some slot → Stays s clock hand client slot o

@@ -1,6 +1,5 @@
 -- Each drop has the cause of its reason.
-use Rattle.std.proofs.Common.{◌≡◌, ℕ, ◌-◌, ◌+◌, ◌%◌, ◌^◌, ◌<◌, List, refl, sym, ap, ◌∙◌, subst, inl}
-use Rattle.std.proofs.Common.{inr, Option, Some}
+use Rattle.std.proofs.Common.{◌≡◌, ℕ, ◌-◌, ◌+◌, ◌%◌, ◌^◌, ◌<◌, List, refl, sym, ap, ◌∙◌, subst, inl, inr, Option, Some}
 use Rattle.std.specs.Prelude.{slice_index, slice_set}
 use Rattle.plain_text.specs.declared.packet.Packet.{Packet}
 use Rattle.entry_order.specs.declared.what.What.TheVariants.{Access}
@@ -15,8 +14,9 @@ use Rattle.balancer_box.specs.declared.place.Noted.{Noted}
 use Rattle.balancer_box.specs.declared.value.BalancerValue.{BalancerValue}
 use Rattle.balancer_box.specs.declared.value.BalancerValue.TheVariants.{Dropped, Loaded, Connected}
 use Rattle.balancer_box.specs.Places.{place_numbered}
-use Rattle.balancer_box.specs.Balancer.{Settings, touched, noted_by, balancer_meaning, Fits}
-use Rattle.balancer_box.specs.Lawful.{AreSettings, balancer_lawful}
+use Rattle.balancer_box.specs.Settings.{Settings, AreSettings}
+use Rattle.balancer_box.specs.Balancer.{touched, noted_by, balancer_meaning, Fits}
+use Rattle.balancer_box.specs.Lawful.{balancer_lawful}
 use Rattle.balancer_box.specs.Emissions.{Trail, trail_of}
 use Rattle.balancer_box.proofs.Making.{Made, made}
 use Rattle.balancer_runs.specs.Packets.{drop_counts, outcomes}
@@ -24,7 +24,8 @@ use Rattle.balancer_runs.specs.Causes.{HasCause, DropsHaveCauses}
 use Rattle.balancer_runs.specs.Choosing.{loads_met}
 use Rattle.balancer_runs.proofs.Settling.{IsReason, IsPlaced, Placed, IsCounted, touch_of, run_placed}
 use Rattle.balancer_runs.proofs.Vanishing.{HasTen, counted_once, run_kept}
-use Rattle.balancer_runs.proofs.Knowing.{KnownAt, Known, run_known}
+use Rattle.balancer_runs.proofs.Known.{KnownAt, Known}
+use Rattle.balancer_runs.proofs.Knowing.{run_known}
 
 -- one count more, of this reason
 abbrev pub IsOneMore : ℕ → List ℕ → List ℕ → Type 0

@@ -1,6 +1,6 @@
 -- How connections end.
-use Rattle.std.proofs.Common.{◌≡◌, ℕ, Bool, true, false, List, refl, sym, ap, ◌∙◌, subst}
-use Rattle.std.proofs.Common.{◌⊎◌, inl, inr, arith, Option, Some, None}
+use Rattle.std.proofs.Common.{◌≡◌, ℕ, Bool, true, false, List, refl, sym, ap, ◌∙◌, subst, ◌⊎◌, inl, inr, arith, Option}
+use Rattle.std.proofs.Common.{Some, None}
 use Rattle.std.specs.Prelude.{◌==◌, ◌&&◌, not, bit_and, Ok}
 use Rattle.std.proofs.lemmas.Bool.{eqb-true}
 use Rattle.plain_text.specs.declared.packet.Packet.{Packet}
@@ -12,8 +12,8 @@ use Rattle.nat_tables.specs.declared.entries.Endpoint.{Endpoint}
 use Rattle.nat_tables.specs.declared.slot.Slot.{Slot}
 use Rattle.nat_tables.specs.declared.phase.Phase.{Phase}
 use Rattle.nat_tables.specs.declared.phase.Phase.TheVariants.{Closing}
-use Rattle.nat_tables.specs.Forwards.{Forwards, slot_of, is_idle, first_idle, refresh, in_phase, found_there}
-use Rattle.nat_tables.specs.Forwards.{found, lives, lives_at, AreMappings}
+use Rattle.nat_tables.specs.Forwards.{Forwards, slot_of, is_idle, first_idle, refresh, in_phase, found_there, found}
+use Rattle.nat_tables.specs.Forwards.{lives, lives_at, AreMappings}
 use Rattle.nat_tables.proofs.Keeping.{may_slot}
 use Rattle.flow_boxes.specs.Flows.{source_of, dest_of}
 use Rattle.balancer_box.specs.declared.place.Place.{Place}
@@ -28,21 +28,23 @@ use Rattle.balancer_box.specs.declared.value.BalancerValue.{BalancerValue}
 use Rattle.balancer_box.specs.declared.value.BalancerValue.TheVariants.{Connected}
 use Rattle.balancer_box.specs.Connections.{closed, without_if, has_ended}
 use Rattle.balancer_box.specs.Places.{place_numbered}
-use Rattle.balancer_box.specs.Balancer.{Settings, is_virtual, backend_at, next_move, resets, tells_by, heard}
-use Rattle.balancer_box.specs.Balancer.{phase_then, opens, gives_way, met, met_there, met_by, checked_there, checked_by}
-use Rattle.balancer_box.specs.Balancer.{finds, connects, checks, touched, noted_by, HasPhase, MayConnect, Fits}
+use Rattle.balancer_box.specs.Settings.{Settings}
+use Rattle.balancer_box.specs.Balancer.{is_virtual, backend_at, next_move, resets, tells_by, heard, phase_then, opens}
+use Rattle.balancer_box.specs.Balancer.{gives_way, met, met_there, met_by, checked_there, checked_by, finds, connects}
+use Rattle.balancer_box.specs.Balancer.{checks, touched, noted_by, HasPhase, MayConnect, Fits}
 use Rattle.balancer_box.specs.Entries.{connections_in}
 use Rattle.balancer_box.specs.Emissions.{Trail, trail_of}
 use Rattle.balancer_box.proofs.ConnectionLemmas.{slot_in_phase, without_refreshed}
-use Rattle.balancer_box.proofs.Emissions.{IsOf}
+use Rattle.balancer_box.proofs.Sendings.{IsOf}
 use Rattle.balancer_runs.specs.Choosing.{loads_met}
-use Rattle.balancer_runs.specs.Idle.{IsIdleAt, IsBusyAt}
+use Rattle.balancer_runs.specs.Idle.{IsIdleAt, IsLiveAt}
 use Rattle.balancer_runs.specs.Staying.{HasReset, HasOpening}
 use Rattle.balancer_runs.specs.Following.{PhaseGoesOn, HadPhase, IsOfSide}
 use Rattle.balancer_runs.specs.Ending.{IsHeard, SidesAreHeard, EndedGiveWay, ResetsRemove}
-use Rattle.balancer_runs.proofs.Tables.{idle_is, busy_is, none_without}
-use Rattle.balancer_runs.proofs.Knowing.{IsBase, IsTold, KnownAt, client_of, answer_of}
-use Rattle.balancer_runs.proofs.Following.{NowAt, AreNow, were_finds, were_connects, of_client, now_goes_on, tells_open}
+use Rattle.balancer_runs.proofs.Tables.{idle_is, live_is, none_without}
+use Rattle.balancer_runs.proofs.Known.{IsBase, IsTold, KnownAt, client_of, answer_of}
+use Rattle.balancer_runs.proofs.Followed.{tells_open}
+use Rattle.balancer_runs.proofs.Following.{NowAt, AreNow, were_finds, were_connects, of_client, now_goes_on}
 use Rattle.balancer_runs.proofs.Touching.{table_touched}
 
 -- What an answer leaves of its client's connection, where that is one to its backend
@@ -51,11 +53,11 @@ module _ (s : Settings) (n : Noted) (es : Forwards) (v : ℕ) (all : AreMappings
   has_phase : (slot : Slot) → slot_of n.client es ≡ Some slot → HasPhase s.closing n.client.protocol slot.phase
   has_phase slot at = (may_slot (MayConnect s v) n.client slot es at all).3
 
-  -- it was not idle, and notes the packet; or it was, and is the same
+  -- it was live, and notes the packet; or it was, and is the same
   abbrev IsChecked : Option ℕ → Slot → Type 0
   IsChecked c new =
       (old : Slot) × (slot_of n.client es ≡ Some old)
-      × ((IsBusyAt n.time n.client old × (new.phase ≡ NowAt c n old.phase))
+      × ((IsLiveAt n.time n.client old × (new.phase ≡ NowAt c n old.phase))
       ⊎ (IsIdleAt n.time n.client old × (old ≡ new)))
 
   -- the same connection, of a box that follows none
@@ -64,17 +66,17 @@ module _ (s : Settings) (n : Noted) (es : Forwards) (v : ℕ) (all : AreMappings
     where
       by : (b : Bool) → is_idle n.time (n.client, new) ≡ b → IsChecked None new
       by true q = (new, at, inr (idle_is n.time n.client new q, refl))
-      by false q = (new, at, inl (busy_is s.closing n.time n.client new (has_phase new at) q, refl))
+      by false q = (new, at, inl (live_is s.closing n.time n.client new (has_phase new at) q, refl))
 
-  of_busy : (slot new : Slot) (seconds : ℕ) → slot_of n.client es ≡ Some slot
+  of_live : (slot new : Slot) (seconds : ℕ) → slot_of n.client es ≡ Some slot
       → is_idle n.time (n.client, slot) ≡ false
       → slot_of n.client (checked_there seconds n es slot true).0 ≡ Some new → IsChecked (Some seconds) new
-  of_busy slot new seconds at busy there =
+  of_live slot new seconds at live there =
       let phase : Phase = phase_then seconds n slot.phase in
       let e : in_phase phase slot ≡ new = cc (slot_in_phase n.client phase slot es at, there) in (
         slot,
         at,
-        inl (busy_is s.closing n.time n.client slot (has_phase slot at) busy, ap (λ (x : Slot). x.phase) (sym e)),
+        inl (live_is s.closing n.time n.client slot (has_phase slot at) live, ap (λ (x : Slot). x.phase) (sym e)),
       )
 
   of_idle : (slot new : Slot) (seconds : ℕ) → slot_of n.client es ≡ Some slot
@@ -94,7 +96,7 @@ module _ (s : Settings) (n : Noted) (es : Forwards) (v : ℕ) (all : AreMappings
       of : (slot : Slot) → slot_of n.client es ≡ Some slot → (a b : Bool) → (slot.port == n.backend) ≡ a
           → is_idle n.time (n.client, slot) ≡ b
           → slot_of n.client (checked_there seconds n es slot (a && not b)).0 ≡ Some new → IsChecked (Some seconds) new
-      of slot at true false p q there = of_busy slot new seconds at q there
+      of slot at true false p q there = of_live slot new seconds at q there
       of slot at true true p q there = of_idle slot new seconds at q there
       of slot at false b p q there =
           let both : Some slot ≡ Some new = sym at ∙ there in
@@ -158,19 +160,19 @@ module _ (s : Settings) (n : Noted) (es : Forwards) (v : ℕ) (all : AreMappings
   finds_reset None slot is reset at = reset_gone reset slot (slot_of n.client es) (first_idle n.time es) at
   finds_reset (Some seconds) slot is reset at = absurd (cc)
 
-  not_idle : (slot : Slot) → IsBusyAt n.time n.client slot → is_idle n.time (n.client, slot) ≡ false
-  not_idle slot busy = by (is_idle n.time (n.client, slot)) refl
+  not_idle : (slot : Slot) → IsLiveAt n.time n.client slot → is_idle n.time (n.client, slot) ≡ false
+  not_idle slot live = by (is_idle n.time (n.client, slot)) refl
     where
       by : (b : Bool) → is_idle n.time (n.client, slot) ≡ b → is_idle n.time (n.client, slot) ≡ false
-      by true q = let idle = idle_is n.time n.client slot q in absurd (omega (arith, busy, idle))
+      by true q = let idle = idle_is n.time n.client slot q in absurd (omega (arith, live, idle))
       by false q = q
 
   checks_reset : (c : Option ℕ) (slot : Slot) → c ≡ None → n.resets ≡ true → slot_of n.client es ≡ Some slot
-      → slot.port ≡ n.backend → IsBusyAt n.time n.client slot → slot_of n.client (checks c n es).0 ≡ None
-  checks_reset (Some seconds) slot is reset at port busy = absurd (cc)
-  checks_reset None slot is reset at port busy =
+      → slot.port ≡ n.backend → IsLiveAt n.time n.client slot → slot_of n.client (checks c n es).0 ≡ None
+  checks_reset (Some seconds) slot is reset at port live = absurd (cc)
+  checks_reset None slot is reset at port live =
       let living : lives_at n.client n.backend n.time (Some slot) ≡ true =
-      rw (is_eq slot.port n.backend port, not_idle slot busy) refl in
+      rw (is_eq slot.port n.backend port, not_idle slot live) refl in
       let alive : lives n.client n.backend n.time es ≡ true =
       ap (lives_at n.client n.backend n.time) at ∙ living in
       rw (alive, reset) (none_without (MayConnect s v) n.client es all)
@@ -260,25 +262,25 @@ module _ (s : Settings) (r : Trail) (loads : Option (List ℕ × List ℕ)) (p :
       had old there = subst (HadPhase old.phase) (sym there) refl
 
       hears : (old : Slot) → slot_of n.client es ≡ Some old → IsHeard Answer n.time n.client (slot_of n.client es)
-          → IsBusyAt n.time n.client old
+          → IsLiveAt n.time n.client old
       hears old there heard = subst (IsHeard Answer n.time n.client) there heard
 
       by : IsChecked s n es v fits.2 s.closing new → Hears Answer n.client new
-      by (old, there, inl (busy, phase)) = (
+      by (old, there, inl (live, phase)) = (
         n.time,
         old.phase,
         told.clock,
         had old there,
         λ heard. subst (λ (k : Class). GoesOn k n.client old.phase new.phase) told.is_class
             (goes_on told.base old.phase new.phase phase),
-        λ not_heard. absurd (not_heard (subst (IsHeard Answer n.time n.client) (sym there) busy)),
+        λ not_heard. absurd (not_heard (subst (IsHeard Answer n.time n.client) (sym there) live)),
       )
       by (old, there, inr (idle, same)) = (
         n.time,
         old.phase,
         told.clock,
         had old there,
-        λ heard. (let busy = hears old there heard in absurd (omega (arith, busy, idle))),
+        λ heard. (let live = hears old there heard in absurd (omega (arith, live, idle))),
         λ not_heard. there ∙ ap Some same,
       )
 
@@ -392,7 +394,7 @@ module _ (s : Settings) (r : Trail) (loads : Option (List ℕ × List ℕ)) (p :
 
   abbrev Removes : Forwards → Endpoint → Slot → Type 0
   Removes left client slot =
-      (now : ℕ) × (r.clock ≡ Some now) × (IsBusyAt now client slot → slot_of client left ≡ None)
+      (now : ℕ) × (r.clock ≡ Some now) × (IsLiveAt now client slot → slot_of client left ≡ None)
 
   client_removes : (told : IsTold s r p n Client) → s.closing ≡ None → (side : Class) (client : Endpoint) (slot : Slot)
       → IsOfSide s client slot.port flow side → HasReset flow → slot_of client es ≡ Some slot
@@ -403,7 +405,7 @@ module _ (s : Settings) (r : Trail) (loads : Option (List ℕ × List ℕ)) (p :
       let gone = finds_reset s n es v fits.2 s.closing slot none (notes_reset told.base reset) there in (
         n.time,
         told.clock,
-        λ busy. subst (λ (x : Endpoint). slot_of x (finds s.closing n es).0 ≡ None) (sym k) gone,
+        λ live. subst (λ (x : Endpoint). slot_of x (finds s.closing n es).0 ≡ None) (sym k) gone,
       )
 
   answer_removes : (told : IsTold s r p n Answer) → s.closing ≡ None → (side : Class) (client : Endpoint) (slot : Slot)
@@ -414,9 +416,9 @@ module _ (s : Settings) (r : Trail) (loads : Option (List ℕ × List ℕ)) (p :
       let there = subst (λ (x : Endpoint). slot_of x es ≡ Some slot) k.1 at in (
         n.time,
         told.clock,
-        λ busy. subst (λ (x : Endpoint). slot_of x (checks s.closing n es).0 ≡ None) (sym k.1)
+        λ live. subst (λ (x : Endpoint). slot_of x (checks s.closing n es).0 ≡ None) (sym k.1)
             (checks_reset s n es v fits.2 s.closing slot none (notes_reset told.base reset) there k.2
-            (subst (λ (x : Endpoint). IsBusyAt n.time x slot) k.1 busy)),
+            (subst (λ (x : Endpoint). IsLiveAt n.time x slot) k.1 live)),
       )
 
   touch_removes : (place : Place) → next_move s place n ≡ Access v → KnownAt s r loads p place n
@@ -468,7 +470,7 @@ resets_remove s threads inputs x earlier entry left v place h es flow side clien
     let r : Trail = trail_of s x.thread earlier in
     let t = table_touched s threads inputs x earlier entry left v place h es is bytes run act what low held table in
     subst (λ (y : BalancerValue).
-    (now : ℕ) × (r.clock ≡ Some now) × (IsBusyAt now client slot → slot_of client (connections_in y) ≡ None))
+    (now : ℕ) × (r.clock ≡ Some now) × (IsLiveAt now client slot → slot_of client (connections_in y) ≡ None))
     (sym t.left)
     (touch_removes s r (loads_met s x.thread earlier) h.packet n v es t.fits flow seen
     (place_numbered h.place.at) t.move t.known none side client slot of reset at)

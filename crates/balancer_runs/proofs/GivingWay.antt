@@ -1,6 +1,6 @@
 -- Idle connections give way.
-use Rattle.std.proofs.Common.{◌≡◌, ℕ, ◌≤◌, Bool, true, false, List, [], ◌∷◌, refl, sym, ap, ◌∙◌, subst}
-use Rattle.std.proofs.Common.{◌⊎◌, inl, inr, arith, Option, Some, None}
+use Rattle.std.proofs.Common.{◌≡◌, ℕ, ◌≤◌, Bool, true, false, List, [], ◌∷◌, refl, sym, ap, ◌∙◌, subst, ◌⊎◌, inl, inr}
+use Rattle.std.proofs.Common.{arith, Option, Some, None}
 use Rattle.std.specs.Prelude.{if◌then◌else◌}
 use Rattle.plain_text.specs.declared.packet.Packet.{Packet}
 use Rattle.plain_machine.specs.declared.local.Move.TheVariants.{Access}
@@ -21,17 +21,18 @@ use Rattle.balancer_box.specs.declared.place.Noted.{Noted}
 use Rattle.balancer_box.specs.declared.value.BalancerValue.TheVariants.{Connected}
 use Rattle.balancer_box.specs.Connections.{closed, without_if}
 use Rattle.balancer_box.specs.Places.{place_numbered}
-use Rattle.balancer_box.specs.Balancer.{Settings, next_move, phase_then, noting, gives_way, met, met_there, met_by}
-use Rattle.balancer_box.specs.Balancer.{finds, connects, touched, noted_by, balancer_meaning, HasPhase, MayConnect, Fits}
+use Rattle.balancer_box.specs.Settings.{Settings}
+use Rattle.balancer_box.specs.Balancer.{next_move, phase_then, noting, gives_way, met, met_there, met_by, finds}
+use Rattle.balancer_box.specs.Balancer.{connects, touched, noted_by, balancer_meaning, HasPhase, MayConnect, Fits}
 use Rattle.balancer_box.specs.Entries.{connections_in}
 use Rattle.balancer_box.specs.Emissions.{Trail, trail_of}
 use Rattle.balancer_box.proofs.ConnectionLemmas.{missed}
 use Rattle.balancer_runs.specs.Choosing.{loads_met}
 use Rattle.balancer_runs.specs.Refreshing.{IsOfClient}
 use Rattle.balancer_runs.specs.GivingWay.{IsDated, IsGone, GiveWay, IdleGiveWay}
-use Rattle.balancer_runs.proofs.Tables.{idle_is, busy_is, other_refresh, other_in_phase, other_without, none_without}
+use Rattle.balancer_runs.proofs.Tables.{idle_is, live_is, other_refresh, other_in_phase, other_without, none_without}
 use Rattle.balancer_runs.proofs.Tables.{without_idle_had}
-use Rattle.balancer_runs.proofs.Knowing.{KnownAt}
+use Rattle.balancer_runs.proofs.Known.{KnownAt}
 use Rattle.balancer_runs.proofs.Refreshing.{WasUsed, IsRefreshed, finds_used, connects_used, own_client, not_answer}
 use Rattle.balancer_runs.proofs.Touching.{table_touched}
 
@@ -146,11 +147,11 @@ module _ (s : Settings) (n : Noted) (es : Forwards) (v : ℕ) (all : AreMappings
         ∙ sym (only_own (without n.client es) (λ client q. other_without n.client client es q) b gone_too);
   }
 
-  -- its own was not idle, whatever the packet makes of it
+  -- its own was live, whatever the packet makes of it
   own_used : (slot : Slot) (left : Forwards) → slot_of n.client es ≡ Some slot
       → is_idle n.time (n.client, slot) ≡ false → LeavesOthers left → Gives left
-  own_used slot left at busy others = record {
-    own = λ later there. (slot, at, busy_is s.closing n.time n.client slot (has_phase n.client slot at) busy);
+  own_used slot left at live others = record {
+    own = λ later there. (slot, at, live_is s.closing n.time n.client slot (has_phase n.client slot at) live);
     other = λ none idle was there is. absurd (cc (none, at));
     one = λ a b gone gone_too. only_own left others a gone ∙ sym (only_own left others b gone_too);
   }
@@ -172,8 +173,8 @@ module _ (s : Settings) (n : Noted) (es : Forwards) (v : ℕ) (all : AreMappings
   none_gone at first = record {
     own = λ later there. absurd (cc (there, at));
     other = λ none idle was there is.
-        let busy = busy_is s.closing n.time idle was (has_phase idle was there) (none_idle n.time es idle was first there)
-        in absurd (omega (arith, busy, is));
+        let live = live_is s.closing n.time idle was (has_phase idle was there) (none_idle n.time es idle was first there)
+        in absurd (omega (arith, live, is));
     one = λ a b gone gone_too. absurd (let was = gone.0.1 in let none = gone.1 in cc (was, none));
   }
 

@@ -1,12 +1,14 @@
 pub mod Settling
 pub mod Vanishing
 pub mod Tables
+pub mod Known
 pub mod Knowing
 pub mod Connections
 pub mod DropCauses
 pub mod Reasons
-pub mod BusyConnections
+pub mod LiveConnections
 pub mod LoadTouches
+pub mod Followed
 pub mod Following
 pub mod Refreshing
 pub mod Touching

@@ -15,8 +15,9 @@ use Rattle.balancer_box.specs.declared.place.Goes.{Goes}
 use Rattle.balancer_box.specs.declared.value.BalancerValue.{BalancerValue}
 use Rattle.balancer_box.specs.declared.value.BalancerValue.TheVariants.{Dropped, Loaded, Connected}
 use Rattle.balancer_box.specs.Places.{place_numbered}
-use Rattle.balancer_box.specs.Balancer.{Settings, goes, local_at, touched, noted_by, balancer_meaning, Fits}
-use Rattle.balancer_box.specs.Lawful.{AreSettings, balancer_lawful}
+use Rattle.balancer_box.specs.Settings.{Settings, AreSettings}
+use Rattle.balancer_box.specs.Balancer.{goes, local_at, touched, noted_by, balancer_meaning, Fits}
+use Rattle.balancer_box.specs.Lawful.{balancer_lawful}
 use Rattle.balancer_box.proofs.Making.{Made, goes_on, made}
 use Rattle.balancer_runs.specs.Packets.{drop_counts, outcomes}
 use Rattle.balancer_runs.specs.Reasons.{ReasonsStand, reason_in}

@@ -1,6 +1,6 @@
 -- Clients refresh their own connections.
-use Rattle.std.proofs.Common.{◌≡◌, ℕ, ◌<◌, ◌≤◌, max, Bool, true, false, List, [], ◌∷◌, ◌++◌, refl, sym, ap, ◌∙◌}
-use Rattle.std.proofs.Common.{subst, ◌⊎◌, inl, inr, arith, Option, Some, None}
+use Rattle.std.proofs.Common.{◌≡◌, ℕ, ◌<◌, ◌≤◌, max, Bool, true, false, List, [], ◌∷◌, ◌++◌, refl, sym, ap, ◌∙◌, subst}
+use Rattle.std.proofs.Common.{◌⊎◌, inl, inr, arith, Option, Some, None}
 use Rattle.std.specs.Prelude.{nat_eq, cond, ◌&&◌, Ok}
 use Rattle.std.proofs.lemmas.Bool.{eqb-true, cases_lt}
 use Rattle.plain_text.specs.declared.packet.Packet.{Packet}
@@ -28,21 +28,22 @@ use Rattle.balancer_box.specs.declared.value.BalancerValue.TheVariants.{Dropped,
 use Rattle.flow_boxes.specs.Flows.{source_of}
 use Rattle.balancer_box.specs.Connections.{closed, without_if}
 use Rattle.balancer_box.specs.Places.{place_numbered}
-use Rattle.balancer_box.specs.Balancer.{Settings, is_virtual, next_move, phase_then, noting, gives_way, met, met_there}
-use Rattle.balancer_box.specs.Balancer.{met_by, new_slot, connected_by, checked_there, checked_by, finds, connects}
-use Rattle.balancer_box.specs.Balancer.{checks}
+use Rattle.balancer_box.specs.Settings.{Settings, AreSettings}
+use Rattle.balancer_box.specs.Balancer.{is_virtual, next_move, phase_then, noting, gives_way, met, met_there, met_by}
+use Rattle.balancer_box.specs.Balancer.{new_slot, connected_by, checked_there, checked_by, finds, connects, checks}
 use Rattle.balancer_box.specs.Balancer.{touched, noted_by, balancer_meaning, MayConnect, Fits}
-use Rattle.balancer_box.specs.Lawful.{AreSettings, balancer_lawful}
+use Rattle.balancer_box.specs.Lawful.{balancer_lawful}
 use Rattle.balancer_box.specs.Entries.{connections_in}
 use Rattle.balancer_box.specs.Emissions.{Trail, trail_of}
 use Rattle.balancer_box.proofs.ConnectionLemmas.{slot_refreshed, slot_in_phase, slot_appended, without_refreshed}
 use Rattle.balancer_box.proofs.Making.{Made, made}
-use Rattle.balancer_box.proofs.Emissions.{IsOf}
+use Rattle.balancer_box.proofs.Sendings.{IsOf}
 use Rattle.balancer_runs.specs.Choosing.{loads_met}
 use Rattle.balancer_runs.specs.Refreshing.{IsOfClient, OnlyClientsRefresh, ClientsRefresh}
 use Rattle.balancer_runs.proofs.Tables.{other_refresh, other_in_phase, other_without, other_append, none_without}
 use Rattle.balancer_runs.proofs.Tables.{without_idle_had}
-use Rattle.balancer_runs.proofs.Knowing.{IsTold, KnownAt, Known, client_of, answer_of, run_known}
+use Rattle.balancer_runs.proofs.Known.{IsTold, KnownAt, Known, client_of, answer_of}
+use Rattle.balancer_runs.proofs.Knowing.{run_known}
 use Rattle.balancer_runs.proofs.Connections.{touch_is}
 use Rattle.balancer_runs.proofs.Touching.{table_touched}
 

@@ -30,20 +30,21 @@ use Rattle.balancer_box.specs.declared.place.Class.TheVariants.{Client, Answer}
 use Rattle.balancer_box.specs.declared.value.BalancerValue.{BalancerValue}
 use Rattle.balancer_box.specs.declared.value.BalancerValue.TheVariants.{Dropped, Loaded, Connected}
 use Rattle.balancer_box.specs.Places.{place_numbered}
-use Rattle.balancer_box.specs.Balancer.{Settings, is_virtual, backend_at, noted_by, balancer_meaning, fresh_value, Fits}
-use Rattle.balancer_box.specs.Lawful.{AreSettings, balancer_lawful}
+use Rattle.balancer_box.specs.Settings.{Settings, AreSettings}
+use Rattle.balancer_box.specs.Balancer.{is_virtual, backend_at, noted_by, balancer_meaning, fresh_value, Fits}
+use Rattle.balancer_box.specs.Lawful.{balancer_lawful}
 use Rattle.balancer_box.specs.Entries.{connections_in}
 use Rattle.balancer_box.specs.Emissions.{trail_of}
 use Rattle.balancer_box.proofs.Making.{Made, made}
 use Rattle.balancer_runs.specs.Choosing.{loads_met}
-use Rattle.balancer_runs.specs.Idle.{idle_after, IsBusyAt}
+use Rattle.flow_boxes.specs.Idle.{idle_after}
+use Rattle.balancer_runs.specs.Idle.{IsLiveAt}
 use Rattle.balancer_runs.specs.Staying.{Stays}
 use Rattle.balancer_runs.specs.Following.{Follows, PhaseGoesOn, HadPhase, IsOfSide, IsFollowedOn}
 use Rattle.balancer_runs.specs.Ending.{IsHeard}
-use Rattle.balancer_runs.specs.Saying.{Said, phase_said, has_bit, with_segment, is_number, answers}
-use Rattle.balancer_runs.specs.Saying.{said_with, said_by, said_in_hand, since, act_touches, said_after, said_of}
-use Rattle.balancer_runs.specs.Saying.{PhasesAreSaid}
-use Rattle.balancer_runs.proofs.Knowing.{both}
+use Rattle.balancer_runs.specs.Saying.{Said, phase_said, has_bit, with_segment, is_number, answers, said_with, said_by}
+use Rattle.balancer_runs.specs.Saying.{said_in_hand, since, act_touches, said_after, said_of, PhasesAreSaid}
+use Rattle.balancer_runs.proofs.Known.{both}
 use Rattle.balancer_runs.proofs.Connections.{time_noted, in_table, connections_stay}
 use Rattle.balancer_runs.proofs.Following.{sides_follow}
 use Rattle.balancer_runs.proofs.Touching.{table_touched}
@@ -247,13 +248,13 @@ module _ (s : Settings) (threads : ℕ) (inputs : ℕ → List Packet) (x : Step
       (subst (Stays s (trail_of s x.thread earlier).clock (thread_after earlier x.thread).hand client slot) there
       stays).0
 
-  busy_test : (slot : Slot) → IsBusyAt now client slot
+  live_test : (slot : Slot) → IsLiveAt now client slot
       → nat_lt now (slot.last + idle_after client.protocol slot.phase) ≡ true
-  busy_test slot busy = grind (arith, nat_tests)
+  live_test slot live = grind (arith, nat_tests)
 
-  test_busy : (slot : Slot) → nat_lt now (slot.last + idle_after client.protocol slot.phase) ≡ true
-      → IsBusyAt now client slot
-  test_busy slot q = grind (arith, nat_tests)
+  test_live : (slot : Slot) → nat_lt now (slot.last + idle_after client.protocol slot.phase) ≡ true
+      → IsLiveAt now client slot
+  test_live slot q = grind (arith, nat_tests)
 
   number_is : (o : Option ℕ) (number : ℕ) → is_number o number ≡ true → o ≡ Some number
   number_is None number q = absurd (cc)
@@ -275,19 +276,19 @@ module _ (s : Settings) (threads : ℕ) (inputs : ℕ → List Packet) (x : Step
       let from = number_is (backend_at s.backends flow.source flow.source_port) slot.port m.0 in
       let of : IsOfSide s client new.port flow Answer =
       (off, from ∙ ap Some (sym (port_is slot at)), same_is client (dest_of flow) k.0) in
-      let busy : IsHeard Answer now client (slot_of client es) =
-      subst (IsHeard Answer now client) (sym at) (test_busy slot m.1) in
-      (heard Answer of).0 busy
+      let live : IsHeard Answer now client (slot_of client es) =
+      subst (IsHeard Answer now client) (sym at) (test_live slot m.1) in
+      (heard Answer of).0 live
 
   not_answer : (o : Option Slot) → slot_of client es ≡ o → answers s client now flow o ≡ false
       → IsOfSide s client new.port flow Answer → IsHeard Answer now client o → ⊥
   not_answer None at q of is_heard = is_heard
-  not_answer (Some slot) at q of busy =
+  not_answer (Some slot) at q of live =
       let a : same_endpoint client (dest_of flow) ≡ true =
       subst (λ (e : Endpoint). same_endpoint client e ≡ true) of.2 (same_self client) in
       let b = is_this (backend_at s.backends flow.source flow.source_port) slot.port
       (of.1 ∙ ap Some (port_is slot at)) in
-      let c = busy_test slot busy in
+      let c = live_test slot live in
       let t : answers s client now flow (Some slot) ≡ true = rw (a, b, c) refl in
       absurd (cc (t, q))
 

@@ -1,6 +1,6 @@
 -- What is of the service, and why each other packet is dropped.
-use Rattle.std.proofs.Common.{◌≡◌, ℕ, ◌-◌, ◌<◌, ◌≤◌, Bool, true, false, refl, sym, subst, inl, inr, arith}
-use Rattle.std.proofs.Common.{Option, Some, None, length, get_or}
+use Rattle.std.proofs.Common.{◌≡◌, ℕ, ◌-◌, ◌<◌, ◌≤◌, Bool, true, false, refl, sym, subst, inl, inr, arith, Option, Some}
+use Rattle.std.proofs.Common.{None, length, get_or}
 use Rattle.std.specs.Prelude.{◌==◌, ◌&&◌, cond, nat_lt, slice_get, Ok}
 use Rattle.std.specs.List.{position_or_len}
 use Rattle.std.proofs.lemmas.Bool.{eqb-true}
@@ -16,14 +16,15 @@ use Rattle.packet_headers.specs.declared.flow.NotFlow.TheVariants.{OtherProtocol
 use Rattle.packet_headers.specs.View.{viewed}
 use Rattle.plain_machine.proofs.Histories.{is_eq}
 use Rattle.flow_boxes.specs.Drops.{reason_of}
-use Rattle.balancer_box.specs.declared.backends.Backend.{Backend}
-use Rattle.balancer_box.specs.Balancer.{Settings, is_virtual, backend_at}
+use Rattle.balancer_box.specs.declared.settings.Backend.{Backend}
+use Rattle.balancer_box.specs.Settings.{Settings}
+use Rattle.balancer_box.specs.Balancer.{is_virtual, backend_at}
 use Rattle.balancer_box.specs.Emissions.{Trail, trail_of, IsSentOnOf}
 use Rattle.balancer_box.proofs.Emissions.{emissions_follow}
 use Rattle.balancer_runs.specs.Causes.{HasCause, IsUnconnected}
 use Rattle.balancer_runs.specs.Serving.{GoesToService, ComesFromBackend, IsOfService, SentAreOfService, HasReason}
 use Rattle.balancer_runs.specs.Serving.{StraysAreOfNone}
-use Rattle.balancer_runs.proofs.Knowing.{both}
+use Rattle.balancer_runs.proofs.Known.{both}
 use Rattle.balancer_runs.proofs.DropCauses.{drops_have}
 
 module _ (s : Settings) (flow : Flow) where

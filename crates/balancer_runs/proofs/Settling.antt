@@ -1,6 +1,6 @@
 -- Where a packet in hand stands tells whether it went out or was counted as dropped.
-use Rattle.std.proofs.Common.{◌≡◌, ◌≢◌, ℕ, ◌+◌, ◌≤◌, ◌<◌, Bool, true, false, List, [], ◌∷◌, refl, sym, ap, ◌∙◌}
-use Rattle.std.proofs.Common.{subst, ◌⊎◌, inl, inr, arith, Option, Some, None}
+use Rattle.std.proofs.Common.{◌≡◌, ◌≢◌, ℕ, ◌+◌, ◌≤◌, ◌<◌, Bool, true, false, List, [], ◌∷◌, refl, sym, ap, ◌∙◌, subst}
+use Rattle.std.proofs.Common.{◌⊎◌, inl, inr, arith, Option, Some, None}
 use Rattle.std.specs.Prelude.{nat_eq, cond, ◌==◌, not, Result, Ok, Err}
 use Rattle.plain_text.specs.declared.packet.Packet.{Packet}
 use Rattle.packet_headers.specs.declared.flow.Flow.{Flow}
@@ -37,14 +37,15 @@ use Rattle.balancer_box.specs.declared.value.BalancerValue.TheVariants.{Dropped,
 use Rattle.balancer_box.specs.declared.place.Goes.{Goes}
 use Rattle.balancer_box.specs.Connections.{find_connection, check_connection, has_ended}
 use Rattle.balancer_box.specs.Places.{place_numbered}
-use Rattle.balancer_box.specs.Balancer.{Settings, goes, next_move, is_virtual, backend_at, begun_answer, begun_flow}
-use Rattle.balancer_box.specs.Balancer.{begun, begins, goes_to, after_find, after_bind, after_check, touched}
-use Rattle.balancer_box.specs.Balancer.{tells_by, ends, after_idle, gives_way, met, met_there, met_by, new_slot}
-use Rattle.balancer_box.specs.Balancer.{gives_up, connected_by, checked_there, checked_by, finds, connects, checks}
-use Rattle.balancer_box.specs.Balancer.{dropped, no_connection}
+use Rattle.balancer_box.specs.Settings.{Settings, AreSettings}
+use Rattle.balancer_box.specs.Balancer.{goes, next_move, is_virtual, backend_at, begun_answer, begun_flow, begun}
+use Rattle.balancer_box.specs.Balancer.{begins, goes_to, after_find, after_bind, after_check, touched, tells_by, ends}
+use Rattle.balancer_box.specs.Balancer.{after_idle, gives_way, met, met_there, met_by, new_slot, gives_up, connected_by}
+use Rattle.balancer_box.specs.Balancer.{checked_there, checked_by, finds, connects, checks, dropped, no_connection}
 use Rattle.balancer_box.specs.Balancer.{after_time, told, local_at, noted_by, balancer_meaning, Fits}
 use Rattle.balancer_box.specs.Noting.{place_again}
-use Rattle.balancer_box.specs.Lawful.{AreSettings, var_of, touches_it, below_all, balancer_lawful}
+use Rattle.balancer_box.specs.Ranks.{var_of, touches_it, below_all}
+use Rattle.balancer_box.specs.Lawful.{balancer_lawful}
 use Rattle.balancer_box.proofs.Making.{goes_on, comes_to, Made, made}
 use Rattle.balancer_runs.specs.Packets.{outcomes_by, outcomes, waits, EachHasOneOutcome}
 

@@ -15,7 +15,8 @@ use Rattle.nat_tables.specs.Phases.{timer, is_kept}
 use Rattle.nat_tables.proofs.Counting.{same_is}
 use Rattle.balancer_box.specs.Balancer.{HasPhase}
 use Rattle.balancer_box.proofs.ConnectionLemmas.{missed}
-use Rattle.balancer_runs.specs.Idle.{idle_after, IsIdleAt, IsBusyAt}
+use Rattle.flow_boxes.specs.Idle.{idle_after}
+use Rattle.balancer_runs.specs.Idle.{IsIdleAt, IsLiveAt}
 
 -- Idle connections, in numbers
 
@@ -31,23 +32,23 @@ idle_in now last protocol EndedByServer q = grind (arith, nat_tests)
 idle_in now last protocol Kept q = absurd (cc)
 
 -- no connection is kept for good
-busy_in : (closing : Option ℕ) (now last protocol : ℕ) (phase : Phase) → HasPhase closing protocol phase
+live_in : (closing : Option ℕ) (now last protocol : ℕ) (phase : Phase) → HasPhase closing protocol phase
     → (not (is_kept phase) && not (nat_lt now (last + timer protocol phase))) ≡ false
     → now < last + idle_after protocol phase
-busy_in closing now last protocol Plain has q = grind (arith, nat_tests)
-busy_in closing now last protocol (Opening seconds) has q = absurd has
-busy_in closing now last protocol Established has q = absurd has
-busy_in closing now last protocol (Closing seconds) has q = grind (arith, nat_tests)
-busy_in closing now last protocol EndedByClient has q = grind (arith, nat_tests)
-busy_in closing now last protocol EndedByServer has q = grind (arith, nat_tests)
-busy_in closing now last protocol Kept has q = absurd has
+live_in closing now last protocol Plain has q = grind (arith, nat_tests)
+live_in closing now last protocol (Opening seconds) has q = absurd has
+live_in closing now last protocol Established has q = absurd has
+live_in closing now last protocol (Closing seconds) has q = grind (arith, nat_tests)
+live_in closing now last protocol EndedByClient has q = grind (arith, nat_tests)
+live_in closing now last protocol EndedByServer has q = grind (arith, nat_tests)
+live_in closing now last protocol Kept has q = absurd has
 
 pub idle_is : (now : ℕ) (client : Endpoint) (slot : Slot) → is_idle now (client, slot) ≡ true → IsIdleAt now client slot
 idle_is now client slot q = idle_in now slot.last client.protocol slot.phase q
 
-pub busy_is : (closing : Option ℕ) (now : ℕ) (client : Endpoint) (slot : Slot)
-    → HasPhase closing client.protocol slot.phase → is_idle now (client, slot) ≡ false → IsBusyAt now client slot
-busy_is closing now client slot has q = busy_in closing now slot.last client.protocol slot.phase has q
+pub live_is : (closing : Option ℕ) (now : ℕ) (client : Endpoint) (slot : Slot)
+    → HasPhase closing client.protocol slot.phase → is_idle now (client, slot) ≡ false → IsLiveAt now client slot
+live_is closing now client slot has q = live_in closing now slot.last client.protocol slot.phase has q
 
 -- The slot of a client after a change
 

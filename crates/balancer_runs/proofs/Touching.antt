@@ -17,12 +17,14 @@ use Rattle.flow_boxes.specs.Flows.{HaveBytes}
 use Rattle.balancer_box.specs.declared.value.BalancerValue.{BalancerValue}
 use Rattle.balancer_box.specs.declared.value.BalancerValue.TheVariants.{Connected}
 use Rattle.balancer_box.specs.Places.{place_numbered}
-use Rattle.balancer_box.specs.Balancer.{Settings, next_move, touched, noted_by, balancer_meaning, Fits}
-use Rattle.balancer_box.specs.Lawful.{AreSettings, balancer_lawful}
+use Rattle.balancer_box.specs.Settings.{Settings, AreSettings}
+use Rattle.balancer_box.specs.Balancer.{next_move, touched, noted_by, balancer_meaning, Fits}
+use Rattle.balancer_box.specs.Lawful.{balancer_lawful}
 use Rattle.balancer_box.specs.Emissions.{Trail, trail_of}
 use Rattle.balancer_box.proofs.Making.{Made, made}
 use Rattle.balancer_runs.specs.Choosing.{loads_met}
-use Rattle.balancer_runs.proofs.Knowing.{KnownAt, Known, run_known}
+use Rattle.balancer_runs.proofs.Known.{KnownAt, Known}
+use Rattle.balancer_runs.proofs.Knowing.{run_known}
 use Rattle.balancer_runs.proofs.Connections.{touch_is}
 
 -- the packet comes to a touch of this table, where what is known of it holds, and leaves this value

@@ -22,10 +22,11 @@ use Rattle.balancer_box.specs.declared.place.Goes.{Goes}
 use Rattle.balancer_box.specs.declared.value.BalancerValue.{BalancerValue}
 use Rattle.balancer_box.specs.declared.value.BalancerValue.TheVariants.{Dropped, Loaded, Connected}
 use Rattle.balancer_box.specs.Places.{place_numbered}
-use Rattle.balancer_box.specs.Balancer.{Settings, goes, touched, told, local_at, noted_by, balancer_meaning}
+use Rattle.balancer_box.specs.Settings.{Settings, AreSettings}
+use Rattle.balancer_box.specs.Balancer.{goes, touched, told, local_at, noted_by, balancer_meaning}
 use Rattle.balancer_box.specs.Balancer.{Fits}
 use Rattle.balancer_box.specs.Noting.{place_again}
-use Rattle.balancer_box.specs.Lawful.{AreSettings, balancer_lawful}
+use Rattle.balancer_box.specs.Lawful.{balancer_lawful}
 use Rattle.balancer_box.proofs.Making.{Made, made}
 use Rattle.balancer_runs.specs.Packets.{taken_by, packets_taken, sent_by, packets_sent, drop_counts, packets_dropped}
 use Rattle.balancer_runs.specs.Packets.{outcomes_by, outcomes, waits, packets_waiting, NoPacketVanishes}

@@ -15,8 +15,8 @@ use Rattle.nat_tables.specs.Forwards.{Forwards, slot_of}
 use Rattle.flow_boxes.specs.Drops.{reason_of, stray}
 use Rattle.flow_boxes.specs.Flows.{HaveBytes, source_of, dest_of}
 use Rattle.balancer_box.specs.declared.value.BalancerValue.{BalancerValue}
-use Rattle.balancer_box.specs.Balancer.{Settings, is_virtual, backend_at, no_connection, balancer_meaning}
-use Rattle.balancer_box.specs.Lawful.{AreSettings}
+use Rattle.balancer_box.specs.Settings.{Settings, AreSettings}
+use Rattle.balancer_box.specs.Balancer.{is_virtual, backend_at, no_connection, balancer_meaning}
 use Rattle.balancer_box.specs.Emissions.{Trail, trail_of}
 use Rattle.balancer_runs.specs.Packets.{drop_counts}
 use Rattle.balancer_runs.specs.Idle.{IsIdleAt}

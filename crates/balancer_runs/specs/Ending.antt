@@ -18,19 +18,19 @@ use Rattle.balancer_box.specs.declared.place.Class.{Class}
 use Rattle.balancer_box.specs.declared.place.Class.TheVariants.{Client, Answer}
 use Rattle.balancer_box.specs.declared.value.BalancerValue.{BalancerValue}
 use Rattle.balancer_box.specs.declared.value.BalancerValue.TheVariants.{Connected}
-use Rattle.balancer_box.specs.Balancer.{Settings, balancer_meaning}
-use Rattle.balancer_box.specs.Lawful.{AreSettings}
+use Rattle.balancer_box.specs.Settings.{Settings, AreSettings}
+use Rattle.balancer_box.specs.Balancer.{balancer_meaning}
 use Rattle.balancer_box.specs.Entries.{connections_in}
 use Rattle.balancer_box.specs.Emissions.{trail_of}
-use Rattle.balancer_runs.specs.Idle.{IsBusyAt}
+use Rattle.balancer_runs.specs.Idle.{IsLiveAt}
 use Rattle.balancer_runs.specs.Staying.{HasReset, HasOpening}
 use Rattle.balancer_runs.specs.Following.{HadPhase, IsOfSide, PhaseGoesOn}
 
--- a client's packet is heard by each connection that it leaves; an answer where the connection is not idle
+-- a client's packet is heard by each connection that it leaves; an answer where the connection is live
 abbrev pub IsHeard : Class → ℕ → Endpoint → Option Slot → Type 0
 IsHeard Client now client old = Unit {0}
 IsHeard Answer now client None = ⊥
-IsHeard Answer now client (Some old) = IsBusyAt now client old
+IsHeard Answer now client (Some old) = IsLiveAt now client old
 
 -- Each touch of a connection table by a packet of a side: the phase of the connection that it leaves is the one that the
 -- packet's control bits make of the one before; or the connection is the same, where the packet is not heard.
@@ -63,7 +63,7 @@ EndedGiveWay =
     → slot_of client es ≡ Some slot → slot.phase ≡ Closing seconds
     → slot_of client (connections_in (value_after (balancer_meaning s) (x ∷ earlier) v)) ≡ None
 
--- where connections are not followed, each touch of a table by a packet that resets a connection which is not idle
+-- where connections are not followed, each touch of a table by a packet that resets a live connection
 abbrev pub ResetsRemove : Type 0
 ResetsRemove =
     (s : Settings) (threads : ℕ) (inputs : ℕ → List Packet) (x : Step BalancerValue)
@@ -74,5 +74,5 @@ ResetsRemove =
     → viewed h.packet.bytes h.packet.original ≡ Ok flow → value_after (balancer_meaning s) earlier v ≡ Connected es
     → s.closing ≡ None → IsOfSide s client slot.port flow side → HasReset flow → slot_of client es ≡ Some slot
     → (now : ℕ) × ((trail_of s x.thread earlier).clock ≡ Some now)
-    × (IsBusyAt now client slot
+    × (IsLiveAt now client slot
     → slot_of client (connections_in (value_after (balancer_meaning s) (x ∷ earlier) v)) ≡ None)

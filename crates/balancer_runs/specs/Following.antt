@@ -30,9 +30,9 @@ use Rattle.balancer_box.specs.declared.value.BalancerValue.TheVariants.{Dropped,
 use Rattle.balancer_box.specs.Loads.{raised, lowered, least_loaded}
 use Rattle.balancer_box.specs.Connections.{find_connection, check_connection}
 use Rattle.balancer_box.specs.Places.{place_numbered}
-use Rattle.balancer_box.specs.Balancer.{Settings, goes, is_virtual, backend_at, begun, begins, after_find}
+use Rattle.balancer_box.specs.Settings.{Settings, AreSettings}
+use Rattle.balancer_box.specs.Balancer.{goes, is_virtual, backend_at, begun, begins, after_find}
 use Rattle.balancer_box.specs.Balancer.{after_bind, after_check, local_at, noted_by, balancer_meaning}
-use Rattle.balancer_box.specs.Lawful.{AreSettings}
 use Rattle.balancer_box.specs.Entries.{connections_in}
 
 -- TCP is protocol 6.

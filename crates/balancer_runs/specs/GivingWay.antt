@@ -12,11 +12,11 @@ use Rattle.nat_tables.specs.Forwards.{Forwards, slot_of}
 use Rattle.flow_boxes.specs.Flows.{HaveBytes}
 use Rattle.balancer_box.specs.declared.value.BalancerValue.{BalancerValue}
 use Rattle.balancer_box.specs.declared.value.BalancerValue.TheVariants.{Connected}
-use Rattle.balancer_box.specs.Balancer.{Settings, balancer_meaning}
-use Rattle.balancer_box.specs.Lawful.{AreSettings}
+use Rattle.balancer_box.specs.Settings.{Settings, AreSettings}
+use Rattle.balancer_box.specs.Balancer.{balancer_meaning}
 use Rattle.balancer_box.specs.Entries.{connections_in}
 use Rattle.balancer_box.specs.Emissions.{trail_of}
-use Rattle.balancer_runs.specs.Idle.{IsIdleAt, IsBusyAt}
+use Rattle.balancer_runs.specs.Idle.{IsIdleAt, IsLiveAt}
 use Rattle.balancer_runs.specs.Refreshing.{IsOfClient}
 
 -- the client's connection was used at this time, or is one that was there and was used later
@@ -31,10 +31,10 @@ abbrev pub IsGone : Forwards → Forwards → Endpoint → Type 0
 IsGone es after client = ((slot : Slot) × (slot_of client es ≡ Some slot)) × (slot_of client after ≡ None)
 
 -- What a packet leaves of a table that looks for its client's connection there. A connection of its client is one that
--- was not idle. Where it had none, and one of the table was idle, one that was idle is gone. No more than one goes.
+-- was live. Where it had none, and one of the table was idle, one that was idle is gone. No more than one goes.
 pub record GiveWay (client : Endpoint) (now : ℕ) (es after : Forwards) : Type 0 where
   pub own : (slot : Slot) → slot_of client after ≡ Some slot
-      → (old : Slot) × (slot_of client es ≡ Some old) × IsBusyAt now client old
+      → (old : Slot) × (slot_of client es ≡ Some old) × IsLiveAt now client old
   pub other : slot_of client es ≡ None → (idle : Endpoint) (slot : Slot) → slot_of idle es ≡ Some slot
       → IsIdleAt now idle slot
       → (gone : Endpoint) × (was : Slot) × (slot_of gone es ≡ Some was) × IsIdleAt now gone was

@@ -1,32 +1,12 @@
--- When a connection is idle, in numbers, whatever timers the tables have.
-use Rattle.std.specs.Prelude.{ℕ, ◌+◌, ◌*◌, ◌<◌, ◌≤◌, max, ◌==◌, if◌then◌else◌}
+-- When a connection is idle, and when it is live. None is kept for good.
+use Rattle.std.specs.Prelude.{ℕ, ◌+◌, ◌<◌, ◌≤◌}
 use Rattle.nat_tables.specs.declared.entries.Endpoint.{Endpoint}
 use Rattle.nat_tables.specs.declared.slot.Slot.{Slot}
-use Rattle.nat_tables.specs.declared.phase.Phase.{Phase}
-use Rattle.nat_tables.specs.declared.phase.Phase.TheVariants.{Plain, Opening, Established, Closing}
-use Rattle.nat_tables.specs.declared.phase.Phase.TheVariants.{EndedByClient, EndedByServer, Kept}
+use Rattle.flow_boxes.specs.Idle.{idle_after}
 
-abbrev pub microseconds : ℕ → ℕ
-microseconds seconds = seconds * 1000000
-
--- 2 hours and 4 minutes of TCP, which is protocol 6 (RFC 5382, REQ-5), and 5 minutes of UDP (RFC 4787, REQ-5)
-abbrev pub idle_by_protocol : ℕ → ℕ
-idle_by_protocol protocol = if protocol == 6 then microseconds 7440 else microseconds 300
-
--- so long where it has not ended; where it has, its own number of seconds, and at least one; the phases of the NAT do
--- not come
-abbrev pub idle_after : ℕ → Phase → ℕ
-idle_after protocol Plain = idle_by_protocol protocol
-idle_after protocol (Opening seconds) = microseconds (max 1 seconds)
-idle_after protocol Established = idle_by_protocol protocol
-idle_after protocol (Closing seconds) = microseconds (max 1 seconds)
-idle_after protocol EndedByClient = idle_by_protocol protocol
-idle_after protocol EndedByServer = idle_by_protocol protocol
-idle_after protocol Kept = idle_by_protocol protocol
-
--- no packet of the client used the connection for that long
+-- no packet of the client used the connection for its time
 abbrev pub IsIdleAt : ℕ → Endpoint → Slot → Type 0
 IsIdleAt now client slot = slot.last + idle_after client.protocol slot.phase ≤ now
 
-abbrev pub IsBusyAt : ℕ → Endpoint → Slot → Type 0
-IsBusyAt now client slot = now < slot.last + idle_after client.protocol slot.phase
+abbrev pub IsLiveAt : ℕ → Endpoint → Slot → Type 0
+IsLiveAt now client slot = now < slot.last + idle_after client.protocol slot.phase

@@ -9,8 +9,8 @@ use Rattle.plain_machine.specs.History.{Act, Took, Did, Emitted, Ended, Step, th
 use Rattle.nat_tables.specs.Ports.{one_if}
 use Rattle.balancer_box.specs.declared.value.BalancerValue.{BalancerValue}
 use Rattle.balancer_box.specs.declared.value.BalancerValue.TheVariants.{Dropped, Loaded, Connected}
-use Rattle.balancer_box.specs.Balancer.{Settings, balancer_meaning}
-use Rattle.balancer_box.specs.Lawful.{AreSettings}
+use Rattle.balancer_box.specs.Settings.{Settings, AreSettings}
+use Rattle.balancer_box.specs.Balancer.{balancer_meaning}
 
 -- how many packets a run took, and how many it sent out
 

@@ -7,12 +7,10 @@ use Rattle.plain_machine.specs.declared.local.Move.TheVariants.{End}
 use Rattle.plain_machine.specs.Machine.{Hand}
 use Rattle.plain_machine.specs.History.{Did, Step, thread_after, value_after, IsHistory}
 use Rattle.balancer_box.specs.declared.value.BalancerValue.{BalancerValue}
-use Rattle.balancer_box.specs.Balancer.{Settings, balancer_meaning}
-use Rattle.balancer_box.specs.Lawful.{AreSettings}
+use Rattle.balancer_box.specs.Settings.{Settings, AreSettings}
+use Rattle.balancer_box.specs.Balancer.{balancer_meaning}
+use Rattle.balancer_box.specs.Places.{reason_register}
 use Rattle.balancer_runs.specs.Packets.{drop_counts}
-
-abbrev pub reason_register : ℕ
-reason_register = 8
 
 abbrev pub reason_in : Hand → ℕ
 reason_in h = slice_index_or h.place.regs reason_register 0

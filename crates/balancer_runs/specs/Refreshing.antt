@@ -14,8 +14,8 @@ use Rattle.nat_tables.specs.Forwards.{Forwards, slot_of}
 use Rattle.flow_boxes.specs.Flows.{source_of, HaveBytes}
 use Rattle.balancer_box.specs.declared.value.BalancerValue.{BalancerValue}
 use Rattle.balancer_box.specs.declared.value.BalancerValue.TheVariants.{Connected}
-use Rattle.balancer_box.specs.Balancer.{Settings, is_virtual, balancer_meaning}
-use Rattle.balancer_box.specs.Lawful.{AreSettings}
+use Rattle.balancer_box.specs.Settings.{Settings, AreSettings}
+use Rattle.balancer_box.specs.Balancer.{is_virtual, balancer_meaning}
 use Rattle.balancer_box.specs.Entries.{connections_in}
 use Rattle.balancer_box.specs.Emissions.{trail_of}
 

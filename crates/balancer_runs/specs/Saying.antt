@@ -18,11 +18,11 @@ use Rattle.flow_boxes.specs.Flows.{HaveBytes, source_of, dest_of}
 use Rattle.balancer_box.specs.declared.place.Class.{Class}
 use Rattle.balancer_box.specs.declared.place.Class.TheVariants.{Client, Answer}
 use Rattle.balancer_box.specs.declared.value.BalancerValue.{BalancerValue}
-use Rattle.balancer_box.specs.Balancer.{Settings, is_virtual, backend_at, balancer_meaning}
-use Rattle.balancer_box.specs.Lawful.{AreSettings}
+use Rattle.balancer_box.specs.Settings.{Settings, AreSettings}
+use Rattle.balancer_box.specs.Balancer.{is_virtual, backend_at, balancer_meaning}
 use Rattle.balancer_box.specs.Entries.{connections_in}
 use Rattle.balancer_box.specs.Emissions.{trail_of}
-use Rattle.balancer_runs.specs.Idle.{idle_after}
+use Rattle.flow_boxes.specs.Idle.{idle_after}
 
 -- whether one side said RST, and each side FIN
 pub record Said : Type 0 where
@@ -59,7 +59,7 @@ abbrev pub is_number : Option ℕ → ℕ → Bool
 is_number None number = false
 is_number (Some other) number = other == number
 
--- an answer to the client from the backend of its connection, which is not idle
+-- an answer to the client from the backend of its connection, which is live
 abbrev pub answers : Settings → Endpoint → ℕ → Flow → Option Slot → Bool
 answers s client now flow None = false
 answers s client now flow (Some slot) =

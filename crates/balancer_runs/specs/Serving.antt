@@ -12,10 +12,10 @@ use Rattle.plain_machine.specs.declared.emission.Emission.{Emission}
 use Rattle.plain_machine.specs.Machine.{Hand}
 use Rattle.plain_machine.specs.History.{Did, Emitted, Step, thread_after, value_after, IsHistory}
 use Rattle.flow_boxes.specs.Flows.{HaveBytes}
-use Rattle.balancer_box.specs.declared.backends.Backend.{Backend}
+use Rattle.balancer_box.specs.declared.settings.Backend.{Backend}
 use Rattle.balancer_box.specs.declared.value.BalancerValue.{BalancerValue}
-use Rattle.balancer_box.specs.Balancer.{Settings, balancer_meaning}
-use Rattle.balancer_box.specs.Lawful.{AreSettings}
+use Rattle.balancer_box.specs.Settings.{Settings, AreSettings}
+use Rattle.balancer_box.specs.Balancer.{balancer_meaning}
 use Rattle.balancer_runs.specs.Packets.{drop_counts}
 
 abbrev pub GoesToService : Settings → Flow → Type 0

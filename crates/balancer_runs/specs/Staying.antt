@@ -13,8 +13,8 @@ use Rattle.nat_tables.specs.declared.phase.Phase.TheVariants.{Closing}
 use Rattle.nat_tables.specs.Forwards.{slot_of}
 use Rattle.flow_boxes.specs.Flows.{HaveBytes, source_of, dest_of}
 use Rattle.balancer_box.specs.declared.value.BalancerValue.{BalancerValue}
-use Rattle.balancer_box.specs.Balancer.{Settings, is_virtual, backend_at, balancer_meaning}
-use Rattle.balancer_box.specs.Lawful.{AreSettings}
+use Rattle.balancer_box.specs.Settings.{Settings, AreSettings}
+use Rattle.balancer_box.specs.Balancer.{is_virtual, backend_at, balancer_meaning}
 use Rattle.balancer_box.specs.Entries.{connections_in}
 use Rattle.balancer_box.specs.Emissions.{trail_of}
 use Rattle.balancer_runs.specs.Idle.{IsIdleAt}

@@ -92,10 +92,10 @@ pub fn idle_connections_give_way()
 
 /// In each run on packets of bytes: where TCP connections are followed, one has ended exactly where a RST came from
 /// either side since it began, or a FIN from each; with FIN from one side it is half closed (`said`). What a side says
-/// counts at each touch of a table by a packet of its client, and by one of its backend while it is not idle (`heard`).
+/// counts at each touch of a table by a packet of its client, and by one of its backend while it is live (`heard`).
 /// A connection that has ended gives way at once to the one that its client opens, by SYN without ACK, FIN and RST, in
 /// the first touch of this packet (`gives_way`). Where connections are not followed, RST from the client or from the
-/// backend removes one that is not idle (`removed`).
+/// backend removes a live one (`removed`).
 pub fn connections_end_as_both_sides_say()
     ensures said { PhasesAreSaid }
     ensures heard { SidesAreHeard }

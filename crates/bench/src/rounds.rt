@@ -17,7 +17,7 @@ use crate::words::next_number;
 use anyhow::{Context, bail, ensure};
 use box_program::Program;
 use monitor_box::MonitorBox;
-use nat_box::NatBox;
+use nat_box::{NatBox, NatSettings};
 use plain_text::Packets;
 use std::env::Args;
 use std::sync::Wait;
@@ -32,7 +32,7 @@ const SHARDS: u32 = 16;
 
 /// A NAT in front of 10.0.0.0/8, from which all generated packets come.
 fn nat() -> NatBox {
-    NatBox::new(SHARDS, 0x0a00_0000, 8, 0xcb00_7101, 1024, 65_535)
+    NatBox::new(NatSettings::basic(SHARDS, 0x0a00_0000, 8, 0xcb00_7101, 1024, 65_535))
 }
 
 /// What threads do outside of a system, one after the other or beside each other.

@@ -9,7 +9,7 @@ use Rattle.plain_text.specs.declared.fault.LineFault.{LineFault}
 use Rattle.plain_text.specs.Grammar.{Row, LineSays, Has as HasLine, Says, row_named, row_fault, values_in}
 use Rattle.plain_text.specs.Lines.{words_of, counted_lines}
 use Rattle.plain_text.proofs.Rows.{says_no_fault}
-use Rattle.balancer_box.specs.declared.backends.Backend.{Backend as Server}
+use Rattle.balancer_box.specs.declared.settings.Backend.{Backend as Server}
 use Rattle.box_conf.specs.declared.kind.BoxConf.{BoxConf}
 use Rattle.box_conf.specs.declared.kind.BoxKind.{BoxKind}
 use Rattle.box_conf.specs.declared.kind.BoxKind.TheVariants as box

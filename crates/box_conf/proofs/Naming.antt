@@ -13,8 +13,8 @@ use Rattle.plain_text.specs.declared.fault.LineCause.TheVariants.{OutOfRange, Tw
 use Rattle.plain_text.specs.Grammar.{Row, Has as HasLine, Says, LineSays, PlacesSay, row_named}
 use Rattle.plain_text.specs.Grammar.{index_in}
 use Rattle.plain_text.specs.Lines.{words_of}
-use Rattle.balancer_box.specs.declared.backends.Backend.{Backend as Server}
-use Rattle.nat_box.specs.declared.nat.StaticPort.{StaticPort}
+use Rattle.balancer_box.specs.declared.settings.Backend.{Backend as Server}
+use Rattle.nat_box.specs.declared.settings.StaticPort.{StaticPort}
 use Rattle.box_conf.specs.declared.names.Name.{Name}
 use Rattle.box_conf.specs.declared.names.Name.TheVariants as name
 use Rattle.box_conf.specs.declared.names.Named.{Named}

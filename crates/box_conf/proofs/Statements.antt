@@ -1,5 +1,5 @@
 -- Each line of a box file is a setting of the box, kind by kind.
-use Rattle.std.proofs.Common.{◌≡◌, ℕ, zero, suc, ◌+◌, ◌≤◌, ◌-◌, ◌^◌, ◌⊎◌, inl, inr, List, [], ◌∷◌, refl, sym, ap}
+use Rattle.std.proofs.Common.{◌≡◌, ℕ, zero, suc, ◌+◌, ◌<◌, ◌≤◌, ◌-◌, ◌^◌, ◌⊎◌, inl, inr, List, [], ◌∷◌, refl, sym, ap}
 use Rattle.std.proofs.Common.{◌∙◌, subst, arith, Option, Some, None, true, false, Bool, cond, length}
 use Rattle.std.specs.Prelude.{◌/◌, ◌==◌, codes, map, max, min, option_map, slice_get, take}
 use Rattle.std.specs.List.{AllByRecursion}
@@ -7,10 +7,10 @@ use Rattle.std.specs.Str.{bytes_eq}
 use Rattle.std.proofs.lemmas.Slice.Eq.{bytes_eq-Decides}
 use Rattle.plain_text.specs.Grammar.{PlacesSay, LineSays, index_in}
 use Rattle.plain_text.specs.Lines.{words_of, counted_lines}
-use Rattle.balancer_box.specs.declared.backends.Backend.{Backend as Server}
+use Rattle.plain_text.proofs.Addresses.{address_small}
+use Rattle.balancer_box.specs.declared.settings.Backend.{Backend as Server}
 use Rattle.balancer_box.specs.Boxes as balancer_boxes
-use Rattle.nat_box.specs.declared.nat.StaticPort.{StaticPort}
-use Rattle.nat_box.specs.Boxes as nat_boxes
+use Rattle.nat_box.specs.declared.settings.StaticPort.{StaticPort}
 use Rattle.box_conf.specs.declared.kind.BoxConf.{BoxConf}
 use Rattle.box_conf.specs.declared.kind.BoxKind.{BoxKind}
 use Rattle.box_conf.specs.declared.kind.BoxKind.TheVariants as box
@@ -81,6 +81,12 @@ begins (first ∷ lines) k names = first_words (words_of first.1) names.0 k name
 
 stays_between : (low high n : ℕ) → low ≤ n → n ≤ high → max low (min n high) ≡ n
 stays_between low high n least greatest = omega arith
+
+-- an address that a line has
+stays_small : (lines : List Line) (word : List ℕ) (address n : ℕ) → SaysEnd lines word address n
+    → min address (2 ^ 32 - 1) ≡ address
+stays_small lines word address n says =
+    let small : address < 2 ^ 32 = address_small says.0 address says.3 in omega arith
 
 -- The range of ports
 
@@ -166,7 +172,7 @@ module _ (lines : List Line) where
       }
 
   nat_of : (conf : BoxConf) (x : AreOfKind kind.Nat lines conf)
-      → OfNat lines (nat_boxes.settings_of (nat_from (Of x) (named_in lines).statics))
+      → OfNat lines (nat_from (Of x) (named_in lines).statics).settings
   nat_of conf x =
       let shards = says_or kind.Nat lines x.rows Shards 1 64 16 (x.values Shards) refl refl refl (omega arith)
       (omega arith) (x.set Shards) in
@@ -179,8 +185,10 @@ module _ (lines : List Line) where
             subst (λ (n : ℕ). SaysOr lines (codes "shards") 16 n)
             (sym (stays_between 1 64 (Of x Shards).first shards.1 shards.2)) shards.0;
         inside =
-            subst (λ (n : ℕ). SaysEnd lines (codes "inside") (Of x Inside).first n)
-            (sym (stays_between 1 32 (Of x Inside).second inside.1 inside.2)) inside.0;
+            subst (λ (n : ℕ). SaysEnd lines (codes "inside") n (max 1 (min (Of x Inside).second 32)))
+            (sym (stays_small lines (codes "inside") (Of x Inside).first (Of x Inside).second inside.0))
+            (subst (λ (n : ℕ). SaysEnd lines (codes "inside") (Of x Inside).first n)
+            (sym (stays_between 1 32 (Of x Inside).second inside.1 inside.2)) inside.0);
         outside =
             says_address kind.Nat lines x.rows Outside (x.values Outside) x.whole
             (inr (inr (inr (inr (inr (inr (inl refl))))))) refl refl (x.set Outside);
@@ -220,7 +228,7 @@ module _ (lines : List Line) where
   stay (x ∷ xs) some few = taken 64 (x ∷ xs) few
 
   balancer_of : (conf : BoxConf) (x : AreOfKind kind.Balancer lines conf) → fault_of_names lines ≡ None
-      → OfBalancer lines (balancer_boxes.settings_of (balancer_from (Of x) (named_in lines).backends))
+      → OfBalancer lines (balancer_from (Of x) (named_in lines).backends).settings
   balancer_of conf x none =
       let shards = says_or kind.Balancer lines x.rows Shards 1 64 16 (x.values Shards) refl refl refl (omega arith)
       (omega arith) (x.set Shards) in
@@ -318,6 +326,11 @@ ports_inside text conf x = by x.0.0 x.0.1
     lines : List Line
     lines = counted_lines text
 
+    IsInside : ℕ → ℕ → Type 0
+    IsInside inside n =
+        AllByRecursion (λ (s : StaticPort). (s.address / 2 ^ (32 - n) == inside / 2 ^ (32 - n)) ≡ true)
+        (named_in lines).statics
+
     by : (k : KindWord) → AreOfKind k lines conf → AreInside conf.kind
     by kind.Count are = subst (λ (c : BoxConf). AreInside c.kind) (sym are.says) tt
     by kind.Monitor are = subst (λ (c : BoxConf). AreInside c.kind) (sym are.says) tt
@@ -327,6 +340,6 @@ ports_inside text conf x = by x.0.0 x.0.1
         let range = says_end kind.Nat lines are.rows Inside 1 32 (are.values Inside) are.whole
         (inr (inr (inr (inr (inr (inl refl)))))) refl refl (are.set Inside) in
         subst (λ (c : BoxConf). AreInside c.kind) (sym are.says)
-        (subst (λ (n : ℕ).
-        AllByRecursion (λ (s : StaticPort). (s.address / 2 ^ (32 - n) == v.first / 2 ^ (32 - n)) ≡ true)
-        (named_in lines).statics) (sym (stays_between 1 32 v.second range.1 range.2)) (nat_inside text conf are x.1))
+        (subst (λ (a : ℕ). IsInside a (max 1 (min v.second 32)))
+        (sym (stays_small lines (word_of Inside) v.first v.second range.0))
+        (subst (IsInside v.first) (sym (stays_between 1 32 v.second range.1 range.2)) (nat_inside text conf are x.1)))

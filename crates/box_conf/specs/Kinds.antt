@@ -12,14 +12,16 @@ use Rattle.tagged_box.specs.declared.tagged.Tagged.{Tagged}
 use Rattle.tagged_box.specs.Tagged.{tagged_meaning}
 use Rattle.monitor_box.specs.declared.value.MonitorValue.{MonitorValue}
 use Rattle.monitor_box.specs.Boxes as monitor
-use Rattle.balancer_box.specs.declared.backends.Backend.{Backend}
+use Rattle.balancer_box.specs.declared.settings.Backend.{Backend}
 use Rattle.balancer_box.specs.declared.balancer.BalancerBox.{BalancerBox}
 use Rattle.balancer_box.specs.declared.value.BalancerValue.{BalancerValue}
 use Rattle.balancer_box.specs.Boxes as balancer
+use Rattle.balancer_box.specs.Places as balancer_places
 use Rattle.nat_box.specs.declared.nat.NatBox.{NatBox}
-use Rattle.nat_box.specs.declared.nat.StaticPort.{StaticPort}
+use Rattle.nat_box.specs.declared.settings.StaticPort.{StaticPort}
 use Rattle.nat_box.specs.declared.value.NatValue.{NatValue}
 use Rattle.nat_box.specs.Boxes as nat
+use Rattle.nat_box.specs.Places as nat_places
 use Rattle.box_conf.specs.declared.kind.BoxConf.{BoxConf}
 use Rattle.box_conf.specs.declared.kind.BoxKind.{BoxKind}
 use Rattle.box_conf.specs.declared.kind.BoxKind.TheVariants.{Count, Monitor, Nat, Balancer}
@@ -60,17 +62,29 @@ number_of number = if number == 0 then None else Some number
 -- the first word after `icmp` lets errors through
 abbrev pub nat_from : (BoxLine → Values) → List StaticPort → NatBox
 nat_from values statics =
-    nat.with_limit (number_of (values Limit).first)
-    (nat.with_errors ((values Icmp).first == 0)
-    (nat.with_statics statics
-    (nat.with_closing (number_of (values Closing).first)
-    (nat.box_with (values Shards).first (values Inside).first (values Inside).second (values Outside).first
-    (values Ports).first (values Ports).second))))
+    nat.box_with (record {
+      shards = (values Shards).first;
+      inside = (values Inside).first;
+      length = (values Inside).second;
+      outside = (values Outside).first;
+      low = (values Ports).first;
+      high = (values Ports).second;
+      closing = number_of (values Closing).first;
+      statics = statics;
+      errors = (values Icmp).first == 0;
+      limit = number_of (values Limit).first;
+    })
 
 abbrev pub balancer_from : (BoxLine → Values) → List Backend → BalancerBox
 balancer_from values backends =
-    balancer.with_closing (number_of (values Closing).first)
-    (balancer.box_with (values Shards).first (values Virtual).first (values Virtual).second backends)
+    let closing : Option ℕ = number_of (values Closing).first in
+    balancer.box_with (record {
+      shards = (values Shards).first;
+      address = (values Virtual).first;
+      port = (values Virtual).second;
+      backends = backends;
+      closing = closing;
+    })
 
 -- whether one VLAN tag is looked through (IEEE 802.1Q): the line `vlan` stands
 abbrev pub has_tags : (BoxLine → Values) → Bool
@@ -86,6 +100,13 @@ box_from kind.Count values names = Count (tagged_from values (record {}))
 box_from kind.Monitor values names = Monitor (tagged_from values (monitor.box_with (values Shards).first))
 box_from kind.Nat values names = Nat (tagged_from values (nat_from values names.statics))
 box_from kind.Balancer values names = Balancer (tagged_from values (balancer_from values names.backends))
+
+-- the register in which the box has the reason for which it drops a packet, when it ends it
+abbrev pub drop_register : BoxKind → Option ℕ
+drop_register (Count box) = None
+drop_register (Monitor box) = None
+drop_register (Nat box) = Some nat_places.reason_register
+drop_register (Balancer box) = Some balancer_places.reason_register
 
 -- the meaning of a program, with the kind of value that its variables have
 pub record AnyMeaning : Type 1 where

@@ -8,8 +8,8 @@ use Rattle.plain_text.specs.declared.fault.LineCause.{LineCause}
 use Rattle.plain_text.specs.declared.fault.LineCause.TheVariants.{OutOfRange, Twice}
 use Rattle.plain_text.specs.declared.fault.LineFault.{LineFault}
 use Rattle.plain_text.specs.Lines.{words_of}
-use Rattle.balancer_box.specs.declared.backends.Backend.{Backend}
-use Rattle.nat_box.specs.declared.nat.StaticPort.{StaticPort}
+use Rattle.balancer_box.specs.declared.settings.Backend.{Backend}
+use Rattle.nat_box.specs.declared.settings.StaticPort.{StaticPort}
 use Rattle.box_conf.specs.declared.names.Name.{Name}
 use Rattle.box_conf.specs.declared.names.Name.TheVariants as name
 use Rattle.box_conf.specs.declared.names.Named.{Named}

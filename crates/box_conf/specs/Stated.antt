@@ -7,12 +7,12 @@ use Rattle.plain_text.specs.Lines.{address_of, number_of, words_of}
 use Rattle.box_program.specs.Count.{count_meaning}
 use Rattle.tagged_box.specs.Tagged.{tagged_meaning}
 use Rattle.monitor_box.specs.Monitor.{monitor_meaning}
-use Rattle.nat_box.specs.declared.nat.StaticPort.{StaticPort}
+use Rattle.nat_box.specs.declared.settings.NatSettings.{NatSettings}
+use Rattle.nat_box.specs.declared.settings.StaticPort.{StaticPort}
 use Rattle.nat_box.specs.Nat as nat
-use Rattle.nat_box.specs.Boxes as nat_boxes
-use Rattle.balancer_box.specs.declared.backends.Backend.{Backend}
+use Rattle.balancer_box.specs.declared.settings.Backend.{Backend}
+use Rattle.balancer_box.specs.declared.settings.BalancerSettings.{BalancerSettings}
 use Rattle.balancer_box.specs.Balancer as balancer
-use Rattle.balancer_box.specs.Boxes as balancer_boxes
 use Rattle.box_conf.specs.declared.kind.BoxConf.{BoxConf}
 use Rattle.box_conf.specs.declared.kind.BoxKind.{BoxKind}
 use Rattle.box_conf.specs.declared.kind.BoxKind.TheVariants.{Count, Monitor, Nat, Balancer}
@@ -117,7 +117,7 @@ abbrev pub Begins : List Line → List ℕ → Type 0
 Begins [] word = ⊥
 Begins (first ∷ lines) word = words_of first.1 ≡ codes "box" ∷ word ∷ []
 
-pub record OfNat (lines : List Line) (s : nat.Settings) : Type 0 where
+pub record OfNat (lines : List Line) (s : NatSettings) : Type 0 where
   pub shards : SaysOr lines (codes "shards") 16 s.shards
   pub inside : SaysEnd lines (codes "inside") s.inside s.length
   pub outside : SaysAddress lines (codes "outside") s.outside
@@ -127,7 +127,7 @@ pub record OfNat (lines : List Line) (s : nat.Settings) : Type 0 where
   pub errors : SaysFlag lines (codes "icmp") (codes "errors" ∷ []) s.errors
   pub statics : EachSays (codes "static") IsStatic lines s.statics
 
-pub record OfBalancer (lines : List Line) (s : balancer.Settings) : Type 0 where
+pub record OfBalancer (lines : List Line) (s : BalancerSettings) : Type 0 where
   pub shards : SaysOr lines (codes "shards") 16 s.shards
   pub end : SaysEnd lines (codes "virtual") s.address s.port
   pub backends : EachSays (codes "backend") IsBackend lines s.backends
@@ -142,11 +142,9 @@ OfKind lines (Count box) = Begins lines (codes "count") × SaysTags lines box.ta
 OfKind lines (Monitor box) =
     Begins lines (codes "monitor") × SaysTags lines box.tags
     × SaysOr lines (codes "shards") 16 box.program.shards
-OfKind lines (Nat box) =
-    Begins lines (codes "nat") × SaysTags lines box.tags × OfNat lines (nat_boxes.settings_of box.program)
+OfKind lines (Nat box) = Begins lines (codes "nat") × SaysTags lines box.tags × OfNat lines box.program.settings
 OfKind lines (Balancer box) =
-    Begins lines (codes "balancer") × SaysTags lines box.tags
-    × OfBalancer lines (balancer_boxes.settings_of box.program)
+    Begins lines (codes "balancer") × SaysTags lines box.tags × OfBalancer lines box.program.settings
 
 -- Each line is a setting of the box: nothing that stands is left out, and nothing holds that does not stand.
 pub record AreSettings (lines : List Line) (conf : BoxConf) : Type 0 where
@@ -161,17 +159,15 @@ MeansSettings (Count box) = (meaning_of (Count box)).meaning ≡ tagged_meaning 
 MeansSettings (Monitor box) =
     (meaning_of (Monitor box)).meaning ≡ tagged_meaning box.tags (monitor_meaning box.program.shards)
 MeansSettings (Nat box) =
-    (meaning_of (Nat box)).meaning
-    ≡ tagged_meaning box.tags (nat.nat_meaning (nat_boxes.settings_of box.program))
+    (meaning_of (Nat box)).meaning ≡ tagged_meaning box.tags (nat.nat_meaning box.program.settings)
 MeansSettings (Balancer box) =
-    (meaning_of (Balancer box)).meaning
-    ≡ tagged_meaning box.tags (balancer.balancer_meaning (balancer_boxes.settings_of box.program))
+    (meaning_of (Balancer box)).meaning ≡ tagged_meaning box.tags (balancer.balancer_meaning box.program.settings)
 
 -- the static ports of a NAT are of its inside network
 abbrev pub AreInside : BoxKind → Type 0
 AreInside (Count box) = Unit {0}
 AreInside (Monitor box) = Unit {0}
 AreInside (Nat box) =
-    AllByRecursion (λ (s : StaticPort). nat.is_inside (nat_boxes.settings_of box.program) s.address ≡ true)
-    box.program.statics
+    AllByRecursion (λ (s : StaticPort). nat.is_inside box.program.settings s.address ≡ true)
+    box.program.settings.statics
 AreInside (Balancer box) = Unit {0}

@@ -1,17 +1,17 @@
 ghost use Rattle.std.specs.Prelude.{◌≡◌, ◌≤◌, ◌<◌, ◌^◌, true, None, is_some, length};
 ghost use Rattle.box_conf.specs.Kinds.{kind_named, lines_of, line_named, missing_line, box_from};
-ghost use Rattle.box_conf.specs.Kinds.{number_of, nat_from, balancer_from, has_tags, IsBalancer};
+ghost use Rattle.box_conf.specs.Kinds.{number_of, nat_from, balancer_from, has_tags, IsBalancer, drop_register};
 ghost use Rattle.box_conf.specs.Settings.{AreInRange, setting, values_set};
 ghost use Rattle.box_conf.specs.declared.table.BoxLine.TheVariants.{Inside, Outside, Virtual};
 
 use crate::names::Named;
 use crate::settings::Settings;
 use crate::table::BoxLine;
-use balancer_box::{Backends, BalancerBox};
+use balancer_box::{Backend, BalancerBox, BalancerSettings};
 use box_program::CountBox;
 use flow_boxes::ShortList;
 use monitor_box::MonitorBox;
-use nat_box::{NatBox, StaticPort};
+use nat_box::{NatBox, NatSettings, StaticPort};
 use tagged_box::Tagged;
 
 /// The box that runs, with its settings.
@@ -21,6 +21,20 @@ pub enum BoxKind {
     Monitor(Tagged<MonitorBox>),
     Nat(Tagged<NatBox>),
     Balancer(Tagged<BalancerBox>),
+}
+
+impl BoxKind {
+    /// The register in which the box has the reason for which it drops a packet, when it ends it. None where it drops
+    /// none.
+    pub fn drop_register(&self) -> Option<usize>
+        ensures { result ≡ drop_register self.now }
+    {
+        match self {
+            BoxKind::Count(_) | BoxKind::Monitor(_) => None,
+            BoxKind::Nat(_) => Some(nat_box::REASON_REGISTER),
+            BoxKind::Balancer(_) => Some(balancer_box::REASON_REGISTER),
+        }
+    }
 }
 
 /// What a box file says.
@@ -178,37 +192,37 @@ fn make_nat(settings: Settings, statics: ShortList<StaticPort>) -> NatBox
     requires outside { is_some (setting settings Outside) ≡ true }
     ensures { result ≡ nat_from (values_set settings) statics }
 {
-    let shards = settings.values(BoxLine::Shards).first;
     let inside = settings.values(BoxLine::Inside);
-    let outside = settings.values(BoxLine::Outside).first;
     let ports = settings.values(BoxLine::Ports);
-    let closing = settings.values(BoxLine::Closing).first;
-    NatBox::new(
-        shards as u32,
-        inside.first as u32,
-        inside.second as u32,
-        outside as u32,
-        ports.first as u16,
-        ports.second as u16,
-    )
-    .with_closing(number_of(closing))
-    .with_statics(statics)
-    .with_errors(settings.values(BoxLine::Icmp).first == 0)
-    .with_limit(number_of(settings.values(BoxLine::Limit).first))
+    NatBox::new(NatSettings {
+        shards: settings.values(BoxLine::Shards).first as u32,
+        inside: inside.first as u32,
+        length: inside.second as u32,
+        outside: settings.values(BoxLine::Outside).first as u32,
+        low: ports.first as u16,
+        high: ports.second as u16,
+        closing: number_of(settings.values(BoxLine::Closing).first),
+        statics,
+        errors: settings.values(BoxLine::Icmp).first == 0,
+        limit: number_of(settings.values(BoxLine::Limit).first),
+    })
 }
 
 /// The balancer of these settings and backends.
-fn make_balancer(settings: Settings, backends: Backends) -> BalancerBox
+fn make_balancer(settings: Settings, backends: ShortList<Backend>) -> BalancerBox
     requires in_range { AreInRange settings }
     requires end { is_some (setting settings Virtual) ≡ true }
     requires some { 1 ≤ length backends }
     requires few { length backends ≤ 64 }
     ensures { result ≡ balancer_from (values_set settings) backends }
 {
-    let shards = settings.values(BoxLine::Shards).first;
     let end = settings.values(BoxLine::Virtual);
     let closing = settings.values(BoxLine::Closing).first;
-    BalancerBox::new(shards as u32, end.first as u32, end.second as u16, backends).with_closing(
-        number_of(closing),
-    )
+    BalancerBox::new(BalancerSettings {
+        shards: settings.values(BoxLine::Shards).first as u32,
+        address: end.first as u32,
+        port: end.second as u16,
+        backends,
+        closing: number_of(closing),
+    })
 }

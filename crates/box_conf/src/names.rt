@@ -11,15 +11,15 @@ ghost use Rattle.box_conf.specs.declared.table.BoxLine.TheVariants as line;
 use crate::conf::fault_at;
 use crate::settings::read_line;
 use crate::table::{BoxLine, Values};
-use balancer_box::{Backend, Backends};
+use balancer_box::{Backend, no_backends};
 use flow_boxes::{MOST, ShortList};
-use nat_box::StaticPort;
+use nat_box::{StaticPort, no_statics};
 use plain_text::{LineCause, LineFault, WordIter, lines, words};
 
 /// What the lines name that may stand again, in the order of the lines.
 #[derive(Debug, Drop)]
 pub struct Named {
-    pub backends: Backends,
+    pub backends: ShortList<Backend>,
     pub statics: ShortList<StaticPort>,
 }
 
@@ -36,13 +36,8 @@ impl Named {
         ensures { result ≡ no_names }
     {
         Named {
-            backends: Backends::new(),
-            statics: ShortList::new(StaticPort {
-                protocol: 0,
-                address: 0,
-                port: 0,
-                outside: 0,
-            }),
+            backends: no_backends(),
+            statics: no_statics(),
         }
     }
 
@@ -96,7 +91,7 @@ impl Named {
 }
 
 /// Whether a backend is one of these.
-fn has_backend(backends: &Backends, backend: Backend) -> bool
+fn has_backend(backends: &ShortList<Backend>, backend: Backend) -> bool
     ensures { result ≡ list_any (λ other. is_same other backend) backends.now }
 {
     backends

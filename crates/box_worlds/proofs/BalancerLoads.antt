@@ -11,7 +11,8 @@ use Rattle.recovery_world.specs.World.{Setting, World, all_inputs}
 use Rattle.recovery_world.specs.Files.{Leaves}
 use Rattle.recovery_laws.proofs.Settlings.{script_settled}
 use Rattle.balancer_box.specs.declared.value.BalancerValue.{BalancerValue}
-use Rattle.balancer_box.specs.Balancer.{Settings, balancer_meaning}
+use Rattle.balancer_box.specs.Settings.{Settings}
+use Rattle.balancer_box.specs.Balancer.{balancer_meaning}
 use Rattle.balancer_box.specs.Charges.{load_in, connections_of, owed, in_hand, in_values, in_hands, IsCharged}
 use Rattle.balancer_box.proofs.Charging.{loads_are_charges}
 use Rattle.box_worlds.specs.Worlds.{IsLedTo, IsOfWorld}

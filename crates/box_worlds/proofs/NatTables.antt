@@ -10,9 +10,10 @@ use Rattle.nat_tables.specs.declared.entries.Endpoint.{Endpoint}
 use Rattle.nat_tables.specs.declared.entries.PortKey.{PortKey}
 use Rattle.nat_box.specs.declared.place.Place.{Place}
 use Rattle.nat_box.specs.declared.place.Noted.{Noted}
-use Rattle.nat_box.specs.declared.nat.StaticPort.{StaticPort}
+use Rattle.nat_box.specs.declared.settings.StaticPort.{StaticPort}
 use Rattle.nat_box.specs.declared.value.NatValue.{NatValue}
-use Rattle.nat_box.specs.Nat.{Settings, nat_meaning}
+use Rattle.nat_box.specs.Settings.{Settings}
+use Rattle.nat_box.specs.Nat.{nat_meaning}
 use Rattle.nat_box.specs.Statics.{kept, IsStatic}
 use Rattle.nat_box.specs.Sentences.{HaveOneEndpoint, HaveOneMapping}
 use Rattle.nat_box.specs.PortStanding as ports

@@ -16,7 +16,7 @@ ghost use Rattle.recovery_world.specs.Events.{IsAmong};
 ghost use Rattle.recovery_world.specs.Finish.{IsFinish};
 ghost use Rattle.recovery_world.specs.Many.{OnAny};
 ghost use Rattle.recovery_world.specs.Files.{Leaves};
-ghost use Rattle.nat_box.specs.declared.nat.StaticPort.{StaticPort};
+ghost use Rattle.nat_box.specs.declared.settings.StaticPort.{StaticPort};
 ghost use Rattle.nat_box.specs.declared.value.NatValue.{NatValue};
 ghost use Rattle.nat_box.specs.Nat as nat;
 ghost use Rattle.nat_box.specs.Statics.{kept, IsStatic};

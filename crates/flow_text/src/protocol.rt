@@ -1,13 +1,9 @@
 ghost use Rattle.std.specs.Prelude.{◌≡◌, IfOk};
 ghost use Rattle.flow_text.specs.Texts.{protocol_text};
 
+use packet_headers::{TCP, UDP};
 use plain_text::{NoMemory, Text, put_decimal};
 use std::alloc::Global;
-
-/// The numbers of the protocols that have ports, in an IPv4 header (RFC 790).
-const TCP: u8 = 6;
-
-const UDP: u8 = 17;
 
 /// The text of a protocol by its number in the IPv4 header: `tcp` for 6, `udp` for 17, and the number for any other.
 pub fn protocol_text(alloc: Global, protocol: u8) -> Result<Text, NoMemory>

@@ -1,13 +1,12 @@
 -- What a trace of a box begins to write, told of the kind of the box.
 use Rattle.std.proofs.Common.{◌≡◌, ℕ, List, Option, ap, ◌∙◌, subst, sym}
 use Rattle.box_conf.specs.declared.kind.BoxKind.{BoxKind}
-use Rattle.box_conf.specs.Kinds.{meaning_of}
+use Rattle.box_conf.specs.Kinds.{meaning_of, drop_register}
 use Rattle.world_io.specs.World.{Shown}
 use Rattle.recovery_world.specs.declared.event.Event.{Event}
 use Rattle.run_writes.specs.declared.opening.ScriptRun.{ScriptRun}
 use Rattle.run_writes.specs.Run.{setting_of}
 use Rattle.noted_runs.specs.Trace.{HasBegunTrace}
-use Rattle.job_top.specs.Trace.{drop_register}
 
 pub begun_as : (k kind : BoxKind) (run : ScriptRun) (events : List Event) (name : List ℕ) (old new : Shown)
     (register : Option ℕ) → kind ≡ k → register ≡ drop_register kind

@@ -29,7 +29,8 @@ use Rattle.job_commands.proofs.OneVerdict.{inputs_one, run_completes}
 use Rattle.job_commands.proofs.Outcomes.{begun_writes_since, not_of_run}
 use Rattle.job_commands.proofs.RunLimits.{stops_are}
 use Rattle.job_top.specs.Trace.{AcceptsTraceInputs, AreAcceptedForTrace, JudgesTrace, KeepsTraceNames, StopsTrace}
-use Rattle.job_top.specs.Trace.{TracesInOrder, TracesToLimit, TracesWhole, drop_register}
+use Rattle.job_top.specs.Trace.{TracesInOrder, TracesToLimit, TracesWhole}
+use Rattle.box_conf.specs.Kinds.{drop_register}
 
 -- The files are as they were when the inputs had been read.
 module _ (a b c : Shown) (keeps : KeepsOutputs a b) where

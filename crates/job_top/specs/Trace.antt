@@ -1,10 +1,8 @@
 -- What the command `trace` does: a run of the script that the inputs ask for, and one recovery more, of which a table
 -- tells what became of each packet.
-use Rattle.std.specs.Prelude.{◌≡◌, ◌⊎◌, ℕ, List, Option, Some, None}
+use Rattle.std.specs.Prelude.{◌≡◌, ◌⊎◌, ℕ, List}
 use Rattle.plain_text.specs.declared.limit.Limit.{Limit}
-use Rattle.box_conf.specs.declared.kind.BoxKind.{BoxKind}
-use Rattle.box_conf.specs.declared.kind.BoxKind.TheVariants.{Count, Monitor, Nat, Balancer}
-use Rattle.box_conf.specs.Kinds.{meaning_of}
+use Rattle.box_conf.specs.Kinds.{meaning_of, drop_register}
 use Rattle.world_io.specs.World.{Shown}
 use Rattle.recovery_world.specs.World.{World as SystemWorld}
 use Rattle.run_writes.specs.Run.{KeepsShown}
@@ -18,13 +16,6 @@ use Rattle.job_commands.specs.Judging.{Judges}
 use Rattle.job_commands.specs.Run.{AcceptsInputs, StopsRun, setting_for}
 use Rattle.job_commands.specs.Turns.{FirstIsTooLarge}
 use Rattle.job_commands.specs.Words.{TraceNames, traced_run}
-
--- the register in which the box has the reason for which it drops a packet, when it ends it
-abbrev pub drop_register : BoxKind → Option ℕ
-drop_register (Count box) = None
-drop_register (Monitor box) = None
-drop_register (Nat box) = Some 6
-drop_register (Balancer box) = Some 8
 
 -- all input files are accepted
 abbrev pub AcceptsTraceInputs : TraceNames → Inputs → Shown → Type 0

@@ -11,7 +11,7 @@ ghost use Rattle.job_commands.specs.Status.{AtInputs, AtOutputs, IsRefusal, stag
 ghost use Rattle.job_commands.specs.Status.{stage_of_limit};
 ghost use Rattle.job_commands.specs.Words.{run_inputs, trace_names_of, traced_run};
 ghost use Rattle.job_top.specs.Trace.{JudgesTrace, TracesInOrder, TracesToLimit, TracesWhole};
-ghost use Rattle.job_top.specs.Trace.{drop_register as drop_register_of};
+ghost use Rattle.box_conf.specs.Kinds.{drop_register};
 
 use box_conf::BoxKind;
 use job_commands::{Inputs, RunWords, Status, TraceWords, read_inputs, run_outcome};
@@ -20,17 +20,6 @@ use plain_text::Text;
 use run_writes::{RunError, ScriptRun};
 use std::alloc::Global;
 use world_io::World;
-
-/// The register in which the box has the reason for which it drops a packet, when it ends it. None where it drops none.
-fn drop_register(kind: &BoxKind) -> Option<usize>
-    ensures { result ≡ drop_register_of kind.now }
-{
-    match kind {
-        BoxKind::Count(_) | BoxKind::Monitor(_) => None,
-        BoxKind::Nat(_) => Some(6),
-        BoxKind::Balancer(_) => Some(8),
-    }
-}
 
 /// Traces the packets through the run that the inputs ask for, and writes the table.
 fn trace_box<W: World>(
@@ -42,20 +31,20 @@ fn trace_box<W: World>(
     requires inputs { CanRun (script_of inputs) }
     requires room { (W.ledger world.old).given < 2 ^ 32 - 1 }
     ensures whole { (p : Start) → W.honest p world.new → OnOk result (HasTraced
-        (drop_register_of inputs.conf.kind) (setting_for inputs) inputs.events table.now
+        (drop_register inputs.conf.kind) (setting_for inputs) inputs.events table.now
         (W.shows p world.old) (W.shows p world.new)) }
     ensures limit { (p : Start) → W.honest p world.new → (limit : LimitKind)
         → result ≡ Err (RunError.Limit limit) → HasStopped (setting_for inputs) inputs.events limit
         (W.shows p world.old) (W.shows p world.new) }
     ensures in_order { (p : Start) → W.honest p world.new → HasBegunTrace
-        (drop_register_of inputs.conf.kind) (setting_for inputs) inputs.events table.now
+        (drop_register inputs.conf.kind) (setting_for inputs) inputs.events table.now
         (W.shows p world.old) (W.shows p world.new) }
     ensures writes_files { WritesFiles W.ledger W.healthy 1 world.old world.new }
     ensures cause { IsErrOf result RunError.WriteFault
         → WritingFailed W.ledger W.healthy world.old world.new }
     ensures before { (p : Start) → W.honest p world.new → W.honest p world.old }
 {
-    let register = drop_register(&inputs.conf.kind);
+    let register = inputs.conf.kind.drop_register();
     let run = ScriptRun {
         threads: inputs.conf.threads,
         tags: inputs.conf.tags,

@@ -6,11 +6,12 @@ use Rattle.plain_machine.specs.declared.local.Local.{Local}
 use Rattle.packet_headers.specs.declared.flow.Flow.{Flow}
 use Rattle.packet_headers.specs.declared.flow.NotFlow.{NotFlow}
 use Rattle.packet_headers.specs.View.{viewed}
-use Rattle.balancer_box.specs.declared.backends.Backend.{Backend}
+use Rattle.balancer_box.specs.declared.settings.Backend.{Backend}
 use Rattle.balancer_box.specs.declared.place.Class.{Class}
 use Rattle.balancer_box.specs.declared.place.Class.TheVariants.{Client, Answer}
 use Rattle.balancer_box.specs.declared.place.Noted.{Noted}
-use Rattle.balancer_box.specs.Balancer.{Settings, frame_to, frame_out, bytes_out, noted_by, balancer_meaning}
+use Rattle.balancer_box.specs.Settings.{Settings}
+use Rattle.balancer_box.specs.Balancer.{frame_to, frame_out, bytes_out, noted_by, balancer_meaning}
 use Rattle.kept_tags.proofs.Seeing.{flow_behind, source_leaves, dest_leaves}
 
 to_leaves : (bytes : List ℕ) (flow : Flow) (backend : Option Backend) → 12 ≤ flow.transport_at

@@ -15,7 +15,8 @@ use Rattle.nat_box.specs.declared.place.Noted.{Noted}
 use Rattle.nat_box.specs.declared.seeing.Seen.{Seen}
 use Rattle.nat_box.specs.declared.seeing.Seen.TheVariants.{OfFlow, OfError, OfNeither}
 use Rattle.nat_box.specs.Places.{noted}
-use Rattle.nat_box.specs.Nat.{Settings, error_or, seen_as, seen_by, frame_out, error_out, bytes_out, nat_meaning}
+use Rattle.nat_box.specs.Settings.{Settings}
+use Rattle.nat_box.specs.Nat.{error_or, seen_as, seen_by, frame_out, error_out, bytes_out, nat_meaning}
 use Rattle.kept_tags.proofs.Seeing.{flow_behind, source_leaves, dest_leaves, IsBehind, error_behind}
 use Rattle.kept_tags.proofs.Seeing.{quoted_source_leaves, quoted_dest_leaves}
 

@@ -25,12 +25,13 @@ use Rattle.nat_box.specs.declared.place.Class.TheVariants.{Outbound, Hairpin, In
 use Rattle.nat_box.specs.declared.place.Noted.{Noted}
 use Rattle.nat_box.specs.declared.value.NatValue.{NatValue}
 use Rattle.nat_box.specs.declared.value.NatValue.TheVariants.{Dropped, Free, Mapped, Taken}
-use Rattle.nat_box.specs.Places.{source_key}
-use Rattle.nat_box.specs.Nat.{Settings, reverse_table, mapped, after_find, after_reserve, after_bind, touched, Fits}
-use Rattle.nat_box.specs.Nat.{goes, dropped, over_limit}
+use Rattle.nat_box.specs.Places.{source_key, drawn_word, no_port}
+use Rattle.nat_box.specs.Settings.{Settings}
+use Rattle.nat_box.specs.Nat.{reverse_table, mapped, after_find, after_reserve, after_bind, touched, Fits, goes}
+use Rattle.nat_box.specs.Nat.{dropped, over_limit}
 use Rattle.nat_box.specs.declared.place.Goes.{Goes}
 use Rattle.nat_box.specs.LimitLaws.{Comes}
-use Rattle.nat_box.specs.Lawful.{var_of}
+use Rattle.nat_box.specs.Ranks.{var_of}
 use Rattle.nat_box.specs.PortStanding.{free_at, maps, maps_for, mapped_at, binds, binds_for, taken_at, bare, queued}
 use Rattle.nat_box.specs.PortStanding.{queued_for, loose, Tally, IsSound}
 
@@ -607,8 +608,8 @@ module _ (s : Settings) (some : 1 ≤ s.shards) (k : PortKey) (e : Endpoint) (th
   touch_sound ReservesPort (Dropped d) n v at is fits range part shift owns touches =
       absurd (wrong_kind s some ReservesPort (Dropped d) n v at fits tt)
   touch_sound ReservesPort (Free pool) n v at is fits range part shift owns touches =
-      let r = reserve n.source.protocol n.source.port n.word pool in
-      reserve_by n pool r.1 r.0 (free_reserved k n.source.protocol n.source.port n.word pool) shift owns
+      let r = reserve n.source.protocol n.source.port (drawn_word n) pool in
+      reserve_by n pool r.1 r.0 (free_reserved k n.source.protocol n.source.port (drawn_word n) pool) shift owns
   touch_sound ReservesPort (Mapped es) n v at is fits range part shift owns touches =
       absurd (wrong_kind s some ReservesPort (Mapped es) n v at fits tt)
   touch_sound ReservesPort (Taken bs) n v at is fits range part shift owns touches =
@@ -693,7 +694,7 @@ module _ (s : Settings) (some : 1 ≤ s.shards) (k : PortKey) (e : Endpoint) (th
       kept_sound n full.es CountsDrop (dropped n over_limit).noted full.es tt (λ number. refl) t.1 t.2
   limited_sound p x n v r at is fits range turns touches (inr (inr (inl refused))) =
       let t = turns_as n p FindsOrBinds x (Mapped refused.es) r
-      (Mapped refused.es, goes UnbindsLost (record n { port = 0; freed = source_key n })) refused.at refused.value
+      (Mapped refused.es, goes UnbindsLost (record n { port = no_port; freed = source_key n })) refused.at refused.value
       refused.goes_on turns in
       lost_sound n refused.es 0 refused.es (λ number. refl) t.1 t.2
   limited_sound p x n v r at is fits range turns touches (inr (inr (inr late))) =

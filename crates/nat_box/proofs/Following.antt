@@ -12,7 +12,8 @@ use Rattle.nat_box.specs.declared.place.Place.{Place}
 use Rattle.nat_box.specs.declared.place.Noted.{Noted}
 use Rattle.nat_box.specs.declared.value.NatValue.{NatValue}
 use Rattle.nat_box.specs.declared.value.NatValue.TheVariants.{Dropped, Free, Mapped, Taken}
-use Rattle.nat_box.specs.Nat.{Settings, followed_by, followed}
+use Rattle.nat_box.specs.Settings.{Settings}
+use Rattle.nat_box.specs.Nat.{followed_by, followed}
 use Rattle.nat_box.specs.PortStanding.{maps, maps_for, bare, queued, queued_for, loose}
 use Rattle.nat_box.specs.Emissions.{left_forward, WasMapped}
 use Rattle.nat_box.proofs.Effects.{seen}

@@ -1,3 +1,4 @@
+pub mod BoxLemmas
 pub mod Effects
 pub mod Following
 pub mod Noting
@@ -8,5 +9,6 @@ pub mod Standing
 pub mod Sentences
 pub mod Making
 pub mod SeenAs
-pub mod UsedPorts
+pub mod LivePorts
+pub mod Translations
 pub mod Emissions

@@ -8,7 +8,8 @@ use Rattle.plain_machine.specs.Machine.{Hand, Thread, Effect, Takes, Touches, Lo
 use Rattle.plain_machine.specs.Machine.{Ends as EndsIt, Moves, holding, sent_packet, take_move, hand_move, held_move}
 use Rattle.nat_box.specs.Places.{place_numbered, noted}
 use Rattle.nat_box.specs.declared.place.Goes.{Goes}
-use Rattle.nat_box.specs.Nat.{Settings, goes, next_move, seen_by, begun, touched_by, followed, looked, told, local_at}
+use Rattle.nat_box.specs.Settings.{Settings}
+use Rattle.nat_box.specs.Nat.{goes, next_move, seen_by, begun, touched_by, followed, looked, told, local_at}
 use Rattle.nat_box.specs.Nat.{nat_meaning}
 use Rattle.nat_box.specs.declared.place.Place.TheVariants.{Ends}
 use Rattle.nat_box.specs.declared.value.NatValue.{NatValue}

@@ -13,8 +13,9 @@ use Rattle.nat_tables.specs.Forwards.{lives}
 use Rattle.nat_tables.specs.Reverses.{endpoint_of}
 use Rattle.nat_box.specs.Places.{place_numbered, noted, dest_key}
 use Rattle.nat_box.specs.declared.place.Goes.{Goes}
-use Rattle.nat_box.specs.Nat.{Settings, goes, next_move, seen_by, flow_in, class_in, begun_by, begun, touched_by}
-use Rattle.nat_box.specs.Nat.{after_endpoint, looked_by, used_port, after_port, looked, after_time, told, local_at}
+use Rattle.nat_box.specs.Settings.{Settings}
+use Rattle.nat_box.specs.Nat.{goes, next_move, seen_by, flow_in, class_in, begun_by, begun, touched_by}
+use Rattle.nat_box.specs.Nat.{after_endpoint, looked_by, live_port, after_port, looked, after_time, told, local_at}
 use Rattle.nat_box.specs.Nat.{nat_meaning, followed}
 use Rattle.nat_box.specs.declared.seeing.Seen.{Seen}
 use Rattle.nat_box.specs.Noting.{place_again}
@@ -182,7 +183,7 @@ look_none s SendsOut x n v e = absurd (cc)
 look_none s Ends x n v e = absurd (cc)
 look_none s FindsPort (Dropped d) n v e = (tt, tt)
 look_none s FindsPort (Free pool) n v e = (tt, tt)
-look_none s FindsPort (Mapped es) n v e = (tt, port_none n (used_port n.source n.time es))
+look_none s FindsPort (Mapped es) n v e = (tt, port_none n (live_port n.source n.time es))
 look_none s FindsPort (Taken bs) n v e = (tt, tt)
 
 -- Of a touch: what it found, left and noted. Of each other move: that no port is out before it, and none after it.

@@ -8,8 +8,9 @@ use Rattle.nat_tables.specs.Ports.{AreOfParity, ArePorts}
 use Rattle.nat_tables.specs.Forwards.{Forwards, is_idle, slot_of, first_idle, found_there, found, bound, port_of}
 use Rattle.nat_tables.specs.Forwards.{AreMappings}
 use Rattle.nat_tables.proofs.Keeping.{may_slot, may_idle}
-use Rattle.nat_box.specs.Places.{source_key}
-use Rattle.nat_box.specs.Nat.{Settings, mapped, after_find, after_reserve, after_bind, touched, MayMap, Fits}
+use Rattle.nat_box.specs.Places.{source_key, drawn_word, no_port}
+use Rattle.nat_box.specs.Settings.{Settings}
+use Rattle.nat_box.specs.Nat.{mapped, after_find, after_reserve, after_bind, touched, MayMap, Fits}
 use Rattle.nat_box.specs.Nat.{touched_by}
 use Rattle.nat_box.specs.Noting.{IsNoted}
 use Rattle.nat_box.specs.LimitLaws.{Comes, touch_comes}
@@ -63,7 +64,7 @@ with_freed n f protocol low is = record {
   target_port = is.target_port;
 }
 
-with_word : (n : Noted) (x : ℕ) → IsNoted n → IsNoted (record n { word = x })
+with_word : (n : Noted) (x : ℕ) → IsNoted n → IsNoted (record n { word_or_reason = x })
 with_word n x is = record {
   protocol = is.protocol;
   address = is.address;
@@ -175,8 +176,8 @@ plain_noted s GivesBackFreed (Taken bs) n v is fits = is
 plain_noted s DrawsWord x n v is fits = is
 plain_noted s ReservesPort (Dropped d) n v is fits = is
 plain_noted s ReservesPort (Free pool) n v is fits =
-    reserved_noted n (reserve n.source.protocol n.source.port n.word pool).0 is
-    (small_reserve n.source.protocol n.source.port n.word pool fits.3)
+    reserved_noted n (reserve n.source.protocol n.source.port (drawn_word n) pool).0 is
+    (small_reserve n.source.protocol n.source.port (drawn_word n) pool fits.3)
 plain_noted s ReservesPort (Mapped es) n v is fits = is
 plain_noted s ReservesPort (Taken bs) n v is fits = is
 plain_noted s BindsPort (Dropped d) n v is fits = is
@@ -215,7 +216,7 @@ limited_noted s p x n v r is fits (inr (inl (inl up))) =
 limited_noted s p x n v r is fits (inr (inl (inr full))) = rw full.goes_on (with_word n 10 is)
 limited_noted s p x n v r is fits (inr (inr (inl refused))) =
     rw refused.goes_on
-    (with_freed (record n { port = 0 }) (source_key n) is.protocol is.port (with_port n 0 (omega arith) is))
+    (with_freed (record n { port = no_port }) (source_key n) is.protocol is.port (with_port n 0 (omega arith) is))
 limited_noted s p x n v r is fits (inr (inr (inr late))) = rw late.goes_on (with_word n 10 is)
 
 pub touched_noted : (s : Settings) (p : Place) (x : NatValue) (n : Noted) (v : ℕ) → IsNoted n → Fits s v x

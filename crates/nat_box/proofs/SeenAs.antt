@@ -16,7 +16,8 @@ use Rattle.flow_boxes.proofs.Fitting.{IsWhole, whole, word_fits, long_fits}
 use Rattle.nat_box.specs.declared.place.Class.{Class}
 use Rattle.nat_box.specs.declared.place.Class.TheVariants.{Outbound, Hairpin, Inbound, OutboundError}
 use Rattle.nat_box.specs.declared.seeing.Seen.TheVariants.{OfFlow}
-use Rattle.nat_box.specs.Nat.{Settings, is_inside, class_of_flow, class_of_error, flow_of_error, error_in, error_or}
+use Rattle.nat_box.specs.Settings.{Settings}
+use Rattle.nat_box.specs.Nat.{is_inside, class_of_flow, class_of_error, flow_of_error, error_in, error_or}
 use Rattle.nat_box.specs.Nat.{seen_as, seen_by, flow_in, class_in, flow_seen, class_seen}
 
 -- the error of a frame

@@ -24,8 +24,9 @@ use Rattle.nat_box.specs.declared.place.Noted.{Noted}
 use Rattle.nat_box.specs.declared.value.NatValue.{NatValue}
 use Rattle.nat_box.specs.declared.value.NatValue.TheVariants.{Dropped, Free, Mapped, Taken}
 use Rattle.nat_box.specs.Places.{place_numbered, noted, source_key}
-use Rattle.nat_box.specs.Nat.{Settings, forward_table, reverse_table, nat_meaning, MayMap, MayBind, Fits}
-use Rattle.nat_box.specs.Lawful.{AreSettings, nat_lawful}
+use Rattle.nat_box.specs.Settings.{Settings, AreSettings}
+use Rattle.nat_box.specs.Nat.{forward_table, reverse_table, nat_meaning, MayMap, MayBind, Fits}
+use Rattle.nat_box.specs.Lawful.{nat_lawful}
 use Rattle.nat_box.specs.PortStanding.{maps, maps_for, mapped_at, binds, binds_for, taken_at, queued, queued_for, loose}
 use Rattle.nat_box.specs.PortStanding.{in_values, in_hand, in_hands, tally_of, IsSound, places_of}
 use Rattle.nat_box.specs.Sentences.{Has, mappings_in, bound_in, IsMapping, HaveReverse, HaveOneEndpoint, HaveOneMapping}

@@ -25,16 +25,17 @@ use Rattle.nat_box.specs.declared.value.NatValue.{NatValue}
 use Rattle.nat_box.specs.declared.value.NatValue.TheVariants.{Dropped, Free, Mapped, Taken}
 use Rattle.nat_box.specs.Places.{place_numbered, noted, source_key}
 use Rattle.nat_box.specs.declared.place.Goes.{Goes}
-use Rattle.nat_box.specs.Nat.{Settings, touched_by, followed, reverse_table, local_at, fresh_value, nat_meaning, Fits}
+use Rattle.nat_box.specs.Settings.{Settings, AreSettings}
+use Rattle.nat_box.specs.Nat.{touched_by, followed, reverse_table, local_at, fresh_value, nat_meaning, Fits}
 use Rattle.nat_box.specs.Noting.{place_again, IsNoted, is_noted, noted_again}
-use Rattle.nat_box.specs.Lawful.{AreSettings, var_of, touches_it, below_all, nat_lawful}
+use Rattle.nat_box.specs.Ranks.{var_of, touches_it, below_all}
+use Rattle.nat_box.specs.Lawful.{nat_lawful}
 use Rattle.nat_box.specs.PortStanding.{free_at, maps, maps_for, mapped_at, binds, binds_for, taken_at, bare, queued}
 use Rattle.nat_box.specs.PortStanding.{queued_for, loose, in_values, in_hand, in_hands, Tally, tally_of, IsSound}
 use Rattle.nat_box.specs.PortStanding.{places_of, PortsStand}
 use Rattle.nat_box.specs.Statics.{kept, outside_ports}
 use Rattle.nat_box.specs.StaticLaws.{kept_apart}
-use Rattle.nat_box.proofs.StaticPlaces.{places_one, range_left, fresh_mapped, fresh_taken, ports_once}
-use Rattle.nat_box.proofs.StaticPlaces.{fresh_free}
+use Rattle.nat_box.proofs.StaticPlaces.{places_one, range_left, fresh_mapped, fresh_taken, ports_once, fresh_free}
 use Rattle.flow_boxes.proofs.Summing.{one_changes, sum_of_none, term_of_sum, sums_below}
 use Rattle.nat_box.proofs.Effects.{holds_none, seen, Shifts, IsPart, IsUnder, Own, limited_sound}
 use Rattle.nat_box.proofs.Following.{seen_followed}

@@ -8,11 +8,12 @@ use Rattle.nat_tables.specs.declared.slot.Slot.{Slot}
 use Rattle.nat_tables.specs.Keys.{same_endpoint, same_port}
 use Rattle.nat_tables.specs.Forwards.{Forwards, slot_of, kept_slot, keep}
 use Rattle.nat_tables.specs.Reverses.{Reverses, endpoint_of, bind}
-use Rattle.nat_box.specs.declared.nat.StaticPort.{StaticPort}
+use Rattle.nat_box.specs.declared.settings.StaticPort.{StaticPort}
 use Rattle.nat_box.specs.Statics.{inside_of, outside_of, kept}
 use Rattle.nat_box.specs.StaticLaws.{IsApart, AreApart, kept_apart}
 use Rattle.nat_box.specs.Starting.{mapped_one, mapped_all, bound_one, bound_all}
-use Rattle.nat_box.specs.Nat.{Settings, forward_table, reverse_table, kept_mappings, kept_bound}
+use Rattle.nat_box.specs.Settings.{Settings}
+use Rattle.nat_box.specs.Nat.{forward_table, reverse_table, kept_mappings, kept_bound}
 
 -- the endpoints have no mappings yet
 abbrev AreNew : List StaticPort → Forwards → Type 0

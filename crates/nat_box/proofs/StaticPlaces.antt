@@ -16,13 +16,13 @@ use Rattle.nat_tables.specs.Reverses.{total_bound}
 use Rattle.nat_tables.proofs.Counting.{port_is, total_without}
 use Rattle.nat_tables.proofs.Pooling.{free_without}
 use Rattle.flow_boxes.proofs.Summing.{one_changes, sum_of_none, term_of_sum, one_term}
-use Rattle.nat_box.specs.declared.nat.StaticPort.{StaticPort}
+use Rattle.nat_box.specs.declared.settings.StaticPort.{StaticPort}
 use Rattle.nat_box.specs.declared.value.NatValue.{NatValue}
 use Rattle.nat_box.specs.declared.value.NatValue.TheVariants.{Dropped, Free, Mapped, Taken}
 use Rattle.nat_box.specs.Statics.{inside_of, outside_of, kept, outside_ports, IsStatic}
 use Rattle.nat_box.specs.StaticLaws.{IsApart, AreApart}
-use Rattle.nat_box.specs.Nat.{Settings, forward_table, reverse_table, kept_mappings, kept_bound, fresh_value, Fits}
-use Rattle.nat_box.specs.Lawful.{AreSettings}
+use Rattle.nat_box.specs.Settings.{Settings, AreSettings}
+use Rattle.nat_box.specs.Nat.{forward_table, reverse_table, kept_mappings, kept_bound, fresh_value, Fits}
 use Rattle.nat_box.specs.PortStanding.{free_at, maps, mapped_at, taken_at, in_values}
 use Rattle.nat_box.specs.PortStanding.{places_of}
 use Rattle.nat_box.proofs.Effects.{of_range_one}

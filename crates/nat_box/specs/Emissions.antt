@@ -18,8 +18,8 @@ use Rattle.flow_boxes.specs.Flows.{HaveBytes, source_of}
 use Rattle.nat_box.specs.declared.seeing.Seen.{Seen}
 use Rattle.nat_box.specs.declared.seeing.Seen.TheVariants.{OfFlow, OfError, OfNeither}
 use Rattle.icmp_errors.specs.ErrorRewriting.{with_quoted_source, with_quoted_dest}
-use Rattle.nat_box.specs.Nat.{Settings, flow_of_error, seen_by, class_seen, nat_meaning}
-use Rattle.nat_box.specs.Lawful.{AreSettings}
+use Rattle.nat_box.specs.Settings.{Settings, AreSettings}
+use Rattle.nat_box.specs.Nat.{flow_of_error, seen_by, class_seen, nat_meaning}
 
 -- What the moves of a packet in hand met: the forward table as its newest touch of one left it, the value that its
 -- newest read found, and the time that it was told.

@@ -1,3 +1,4 @@
+pub mod Settings
 pub mod Places
 pub mod Statics
 pub mod Nat
@@ -5,6 +6,8 @@ pub mod StaticLaws
 pub mod LimitLaws
 pub mod Starting
 pub mod Noting
+pub mod Ranks
+pub mod Fitting
 pub mod Lawful
 pub mod PortStanding
 pub mod Sentences

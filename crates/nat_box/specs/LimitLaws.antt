@@ -28,8 +28,9 @@ use Rattle.nat_box.specs.declared.place.Noted.{Noted}
 use Rattle.nat_box.specs.declared.place.Goes.{Goes}
 use Rattle.nat_box.specs.declared.value.NatValue.{NatValue}
 use Rattle.nat_box.specs.declared.value.NatValue.TheVariants.{Dropped, Free, Mapped, Taken}
-use Rattle.nat_box.specs.Places.{source_key}
-use Rattle.nat_box.specs.Nat.{Settings, goes, dropped, over_limit, after_find, touched, after_find_within}
+use Rattle.nat_box.specs.Places.{source_key, no_port, is_refused}
+use Rattle.nat_box.specs.Settings.{Settings}
+use Rattle.nat_box.specs.Nat.{goes, dropped, over_limit, after_find, touched, after_find_within}
 use Rattle.nat_box.specs.Nat.{after_bind_within, after_lost, limited, touched_by, followed_by, MayMap, AreWithin, Fits}
 
 -- How many mappings a host has is a sum over the mappings
@@ -205,7 +206,7 @@ pub record RefusesBind (limit : Option ℕ) (p : Place) (x : NatValue) (n : Note
   pub within : limit ≡ Some most
   pub at : p ≡ FindsOrBinds
   pub value : x ≡ Mapped es
-  pub goes_on : r ≡ (Mapped es, goes UnbindsLost (record n { port = 0; freed = source_key n }))
+  pub goes_on : r ≡ (Mapped es, goes UnbindsLost (record n { port = no_port; freed = source_key n }))
 
 -- and then the packet is dropped
 pub record DropsLate (p : Place) (x : NatValue) (n : Noted) (r : NatValue × Goes) : Type 0 where
@@ -217,7 +218,7 @@ pub record DropsLate (p : Place) (x : NatValue) (n : Noted) (r : NatValue × Goe
 -- where hosts have a limit, this is a mapping's port
 abbrev pub IsPort : Option ℕ → ℕ → Type 0
 IsPort None port = Unit {0}
-IsPort (Some most) port = (port == 0) ≡ false
+IsPort (Some most) port = (port == no_port) ≡ false
 
 -- or the touch is the same, and of a lost port the packet's source has its mapping
 pub record Agrees (limit : Option ℕ) (p : Place) (x : NatValue) (n : Noted) (r : NatValue × Goes) : Type 0 where
@@ -326,7 +327,7 @@ bind_comes most n es None = by (is_full most n.source es)
     })))
     by false = inl (record { same = refl; port = λ pool at value. absurd (cc) })
 
-lost_comes : (most : ℕ) (n : Noted) (pool : PoolPorts) (b : Bool) → (n.port == 0) ≡ b
+lost_comes : (most : ℕ) (n : Noted) (pool : PoolPorts) (b : Bool) → (is_refused n) ≡ b
     → Comes (Some most) GivesBackLost (Free pool) n
     (Free (give_back n.freed.protocol n.freed.port pool), after_lost n b)
 lost_comes most n pool true is = inr (inr (inr (record { pool = pool; at = refl; value = refl; goes_on = refl })))
@@ -365,7 +366,7 @@ limited_comes May most UnbindsLost x n all =
     inl (record { same = refl; port = λ pool at value. absurd (cc) })
 limited_comes May most GivesBackLost (Dropped d) n all =
     inl (record { same = refl; port = λ pool at value. absurd (cc) })
-limited_comes May most GivesBackLost (Free pool) n all = lost_comes most n pool (n.port == 0) refl
+limited_comes May most GivesBackLost (Free pool) n all = lost_comes most n pool (is_refused n) refl
 limited_comes May most GivesBackLost (Mapped es) n all =
     inl (record { same = refl; port = λ pool at value. absurd (cc) })
 limited_comes May most GivesBackLost (Taken bs) n all =

@@ -35,7 +35,8 @@ use Rattle.nat_tables.specs.Forwards.{Forwards, is_idle, slot_of, find, find_or_
 use Rattle.nat_tables.specs.Forwards.{kept_slot, HasKept}
 use Rattle.nat_tables.specs.Hosts.{count_of, is_full, find_within, bind_within}
 use Rattle.nat_tables.specs.Reverses.{Reverses, endpoint_of, bind, unbind, AreBound}
-use Rattle.nat_box.specs.declared.nat.StaticPort.{StaticPort}
+use Rattle.nat_box.specs.declared.settings.StaticPort.{StaticPort}
+use Rattle.nat_box.specs.Settings.{Settings}
 use Rattle.nat_box.specs.declared.place.Place.{Place}
 use Rattle.nat_box.specs.declared.place.Place.TheVariants.{HearsTime, FindsMapping, UnbindsFreed, GivesBackFreed}
 use Rattle.nat_box.specs.declared.place.Place.TheVariants.{DrawsWord, ReservesPort, BindsPort, FindsOrBinds}
@@ -52,28 +53,8 @@ use Rattle.nat_box.specs.declared.value.NatValue.TheVariants.{Dropped, Free, Map
 use Rattle.nat_box.specs.Shown.{shown_value}
 use Rattle.flow_boxes.specs.Flows.{endpoint}
 use Rattle.nat_box.specs.Statics.{inside_of, outside_of, static_port, kept, outside_ports, IsStatic}
-use Rattle.nat_box.specs.Places.{place_numbered, noted, local_of, source_key, dest_key}
-
-pub record Settings : Type 0 where
-  -- how many forward tables there are, and how many reverse tables
-  pub shards : ℕ
-  -- the inside network: an address of it, and how many leading bits all its addresses share
-  pub inside : ℕ
-  pub length : ℕ
-  pub outside : ℕ
-  -- the range of outside ports, both ends included
-  pub low : ℕ
-  pub high : ℕ
-  -- for how many seconds the mapping of a connection that is not established is kept without use; where there is none,
-  -- connections are not followed
-  pub closing : Option ℕ
-  -- inside endpoints that always have their outside ports
-  pub statics : List StaticPort
-  -- errors of ICMP go through
-  pub errors : Bool
-  -- how many mappings of a protocol an inside host has at most (RFC 6888, REQ-4); where there is none, as many as there
-  -- are ports
-  pub limit : Option ℕ
+use Rattle.nat_box.specs.Places.{place_numbered, noted, local_of, source_key, dest_key, drawn_word, drop_reason}
+use Rattle.nat_box.specs.Places.{no_port, is_refused}
 
 abbrev pub goes : Place → Noted → Goes
 goes place n = record { place = place; noted = n }
@@ -229,8 +210,8 @@ nothing_noted reason = record {
   dest_port = 0;
   segment = Silent;
   time = 0;
-  word = reason;
-  port = 0;
+  word_or_reason = reason;
+  port = no_port;
   freed = port_key 0 0;
   target = endpoint 0 0 0;
 }
@@ -242,8 +223,8 @@ noted_flow segment flow class = record {
   dest_port = flow.dest_port;
   segment = segment;
   time = 0;
-  word = 0;
-  port = 0;
+  word_or_reason = 0;
+  port = no_port;
   freed = port_key 0 0;
   target = endpoint flow.protocol 0 0;
 }
@@ -263,7 +244,7 @@ begun s seen = begun_by s (flow_in seen) (class_in s seen)
 
 -- a packet is dropped for this reason
 abbrev pub dropped : Noted → ℕ → Goes
-dropped n reason = goes CountsDrop (record n { word = reason })
+dropped n reason = goes CountsDrop (record n { word_or_reason = reason })
 
 -- where a packet goes whose source has its mapping
 abbrev pub mapped : Noted → Class → Goes
@@ -292,18 +273,18 @@ touched FindsMapping (Mapped es) n =
 touched UnbindsFreed (Taken bs) n = (Taken (unbind n.freed bs), goes GivesBackFreed n)
 touched GivesBackFreed (Free pool) n = (Free (give_back n.freed.protocol n.freed.port pool), goes DrawsWord n)
 touched ReservesPort (Free pool) n =
-    let r = reserve n.source.protocol n.source.port n.word pool in (Free r.1, after_reserve n r.0)
+    let r = reserve n.source.protocol n.source.port (drawn_word n) pool in (Free r.1, after_reserve n r.0)
 touched BindsPort (Taken bs) n = (Taken (bind (source_key n) n.source bs), goes FindsOrBinds n)
 touched FindsOrBinds (Mapped es) n =
     let r = find_or_bind n.source n.port n.time es in (Mapped r.1, after_bind n r.0)
 touched UnbindsLost (Taken bs) n = (Taken (unbind n.freed bs), goes GivesBackLost n)
 touched GivesBackLost (Free pool) n = (Free (give_back n.freed.protocol n.freed.port pool), mapped n n.class)
-touched CountsDrop (Dropped d) n = (Dropped (with_drop n.word d), goes Ends n)
+touched CountsDrop (Dropped d) n = (Dropped (with_drop (drop_reason n) d), goes Ends n)
 touched _ x n = (x, goes Ends n)
 
 -- Where each host has at most so many mappings, a packet whose source has none, and whose host has as many as it may
 -- have, is dropped: when it finds that, or when another packet was quicker. Its port is given back then, and it has
--- port 0 meanwhile, which is no port of a mapping.
+-- no port meanwhile.
 
 abbrev pub after_find_within : ℕ → Noted → Find → Forwards → Goes
 after_find_within most n (Live port) es = after_find n (Live port)
@@ -312,7 +293,7 @@ after_find_within most n (Absent None) es = if is_full most n.source es then dro
 
 abbrev pub after_bind_within : Noted → Option Bind → Goes
 after_bind_within n (Some bind) = after_bind n bind
-after_bind_within n None = goes UnbindsLost (record n { port = 0; freed = source_key n })
+after_bind_within n None = goes UnbindsLost (record n { port = no_port; freed = source_key n })
 
 abbrev pub after_lost : Noted → Bool → Goes
 after_lost n true = dropped n over_limit
@@ -325,7 +306,7 @@ limited most FindsMapping (Mapped es) n =
 limited most FindsOrBinds (Mapped es) n =
     let r = bind_within most n.source n.port n.time es in (Mapped r.1, after_bind_within n r.0)
 limited most GivesBackLost (Free pool) n =
-    (Free (give_back n.freed.protocol n.freed.port pool), after_lost n (n.port == 0))
+    (Free (give_back n.freed.protocol n.freed.port pool), after_lost n (is_refused n))
 limited most p x n = touched p x n
 
 abbrev pub touched_by : Option ℕ → Place → NatValue → Noted → NatValue × Goes
@@ -354,14 +335,14 @@ abbrev pub looked_by : Noted → Bool → Goes
 looked_by n true = goes SendsOut n
 looked_by n false = dropped n no_mapping
 
--- the port of an endpoint's mapping, where there is one that is not idle
+-- the port of an endpoint's mapping, where there is one that is live
 
-abbrev pub used_slot : Endpoint → ℕ → Option Slot → Option ℕ
-used_slot key now None = None
-used_slot key now (Some slot) = if is_idle now (key, slot) then None else Some slot.port
+abbrev pub live_slot : Endpoint → ℕ → Option Slot → Option ℕ
+live_slot key now None = None
+live_slot key now (Some slot) = if is_idle now (key, slot) then None else Some slot.port
 
-abbrev pub used_port : Endpoint → ℕ → Forwards → Option ℕ
-used_port key now es = used_slot key now (slot_of key es)
+abbrev pub live_port : Endpoint → ℕ → Forwards → Option ℕ
+live_port key now es = live_slot key now (slot_of key es)
 
 -- an error of ICMP goes out from the port of its source
 abbrev pub after_port : Noted → Option ℕ → Goes
@@ -371,7 +352,7 @@ after_port n None = dropped n no_mapping
 abbrev pub looked : Place → NatValue → Noted → Goes
 looked FindsEndpoint (Taken bs) n = after_endpoint n (endpoint_of (dest_key n) bs)
 looked AsksIfLives (Mapped es) n = looked_by n (lives n.target n.dest_port n.time es)
-looked FindsPort (Mapped es) n = after_port n (used_port n.source n.time es)
+looked FindsPort (Mapped es) n = after_port n (live_port n.source n.time es)
 looked _ x n = goes Ends n
 
 -- Answers
@@ -384,7 +365,7 @@ after_time n OutboundError = goes FindsPort n
 
 abbrev pub told : Place → ℕ → Noted → Goes
 told HearsTime time n = let m : Noted = record n { time = time } in after_time m m.class
-told DrawsWord word n = goes ReservesPort (record n { word = word })
+told DrawsWord word n = goes ReservesPort (record n { word_or_reason = word })
 told _ answer n = goes Ends n
 
 -- What goes out: the frames of RFC 3022

@@ -1,5 +1,5 @@
 -- What is noted in a Local is read from it again.
-use Rattle.std.specs.Prelude.{◌≡◌, ◌+◌, ◌*◌, ◌/◌, ◌%◌, ◌^◌, ◌<◌, refl}
+use Rattle.std.specs.Prelude.{◌≡◌, ℕ, ◌+◌, ◌*◌, ◌/◌, ◌%◌, ◌^◌, ◌<◌, refl}
 use Rattle.std.proofs.Common.{arith, ap, ◌∙◌}
 use Rattle.plain_machine.specs.declared.local.Local.{Local}
 use Rattle.nat_box.specs.declared.place.Place.{Place}
@@ -13,7 +13,7 @@ use Rattle.nat_box.specs.declared.place.Noted.{Noted}
 use Rattle.nat_tables.specs.declared.phase.Segment.{Segment}
 use Rattle.nat_tables.specs.declared.phase.Segment.TheVariants.{Silent, Opens, Carries, Closes}
 use Rattle.nat_box.specs.Places.{number_of, place_numbered, number_of_class, class_of, noted, local_of}
-use Rattle.nat_box.specs.Places.{number_of_segment, segment_numbered}
+use Rattle.nat_box.specs.Places.{number_of_segment, segment_numbered, packed, packed_port, packed_segment}
 
 pub place_again : (p : Place) → place_numbered (number_of p) ≡ p
 place_again HearsTime = refl
@@ -44,6 +44,16 @@ segment_again Silent = refl
 segment_again Opens = refl
 segment_again Carries = refl
 segment_again Closes = refl
+
+-- and so are the port and the kind of segments that are packed into one register
+
+pub packed_port_again : (port : ℕ) (g : Segment) → port < 2 ^ 16 → packed_port (packed port g) ≡ port
+packed_port_again port g low = omega arith
+
+pub packed_segment_again : (port : ℕ) (g : Segment) → port < 2 ^ 16 → packed_segment (packed port g) ≡ g
+packed_segment_again port g low =
+    let above : packed port g / 2 ^ 16 ≡ number_of_segment g = omega arith in
+    ap segment_numbered above ∙ segment_again g
 
 -- each number fits its field
 pub record IsNoted (n : Noted) : Type 0 where
@@ -78,12 +88,10 @@ noted_again p n is =
     let a1 : n.source.protocol % 2 ^ 8 ≡ n.source.protocol = omega (arith, is.protocol) in
     let a2 : n.source.address % 2 ^ 32 ≡ n.source.address = omega (arith, is.address) in
     let a3 : n.source.port % 2 ^ 16 ≡ n.source.port = omega (arith, is.source_port) in
-    let a4 : (n.dest_port + 2 ^ 16 * number_of_segment n.segment) % 2 ^ 16 ≡ n.dest_port =
-    omega (arith, is.dest_port) in
-    let above : (n.dest_port + 2 ^ 16 * number_of_segment n.segment) / 2 ^ 16 ≡ number_of_segment n.segment =
-    omega (arith, is.dest_port) in
-    let g : segment_numbered ((n.dest_port + 2 ^ 16 * number_of_segment n.segment) / 2 ^ 16) ≡ n.segment =
-    ap segment_numbered above ∙ segment_again n.segment in
+    let a4 : packed_port (packed n.dest_port n.segment) ≡ n.dest_port =
+    packed_port_again n.dest_port n.segment is.dest_port in
+    let g : packed_segment (packed n.dest_port n.segment) ≡ n.segment =
+    packed_segment_again n.dest_port n.segment is.dest_port in
     let a5 : n.port % 2 ^ 16 ≡ n.port = omega (arith, is.port) in
     let a6 : n.freed.protocol % 2 ^ 8 ≡ n.freed.protocol = omega (arith, is.freed_protocol) in
     let a7 : n.freed.port % 2 ^ 16 ≡ n.freed.port = omega (arith, is.freed_port) in
@@ -96,7 +104,7 @@ noted_again p n is =
       dest_port = a4 i;
       segment = g i;
       time = n.time;
-      word = n.word;
+      word_or_reason = n.word_or_reason;
       port = a5 i;
       freed = record { protocol = a6 i; port = a7 i };
       target = record { protocol = a8 i; address = a9 i; port = a10 i };

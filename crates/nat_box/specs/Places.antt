@@ -1,5 +1,5 @@
 -- What the Local of a packet in hand says: the place of its next move, and what was noted.
-use Rattle.std.specs.Prelude.{ℕ, ◌+◌, ◌*◌, ◌/◌, ◌%◌, ◌^◌, [], ◌∷◌, slice_index, ◌==◌, if◌then◌else◌}
+use Rattle.std.specs.Prelude.{ℕ, ◌+◌, ◌*◌, ◌/◌, ◌%◌, ◌^◌, Bool, [], ◌∷◌, slice_index, ◌==◌, if◌then◌else◌}
 use Rattle.plain_machine.specs.declared.local.Local.{Local}
 use Rattle.nat_tables.specs.declared.entries.PortKey.{PortKey}
 use Rattle.nat_tables.specs.declared.phase.Segment.{Segment}
@@ -62,15 +62,30 @@ abbrev pub segment_numbered : ℕ → Segment
 segment_numbered number =
     if number == 0 then Silent else if number == 1 then Opens else if number == 2 then Carries else Closes
 
--- what the Local has noted; the kind of a segment stands above the 16 bits of the port that it goes to
+-- a port and a kind of segments in one register: the kind stands above the 16 bits of the port
+
+abbrev pub packed : ℕ → Segment → ℕ
+packed port segment = port + 2 ^ 16 * number_of_segment segment
+
+abbrev pub packed_port : ℕ → ℕ
+packed_port register = register % 2 ^ 16
+
+abbrev pub packed_segment : ℕ → Segment
+packed_segment register = segment_numbered (register / 2 ^ 16)
+
+-- the register in which a packet that is counted as dropped has the reason
+abbrev pub reason_register : ℕ
+reason_register = 6
+
+-- what the Local has noted
 abbrev pub noted : Local → Noted
 noted l = record {
   class = class_of (slice_index l.regs 0);
   source = endpoint (slice_index l.regs 1 % 2 ^ 8) (slice_index l.regs 2 % 2 ^ 32) (slice_index l.regs 3 % 2 ^ 16);
-  dest_port = slice_index l.regs 4 % 2 ^ 16;
-  segment = segment_numbered (slice_index l.regs 4 / 2 ^ 16);
+  dest_port = packed_port (slice_index l.regs 4);
+  segment = packed_segment (slice_index l.regs 4);
   time = slice_index l.regs 5;
-  word = slice_index l.regs 6;
+  word_or_reason = slice_index l.regs reason_register;
   port = slice_index l.regs 7 % 2 ^ 16;
   freed = port_key (slice_index l.regs 8 % 2 ^ 8) (slice_index l.regs 9 % 2 ^ 16);
   target = endpoint (slice_index l.regs 1 % 2 ^ 8) (slice_index l.regs 10 % 2 ^ 32) (slice_index l.regs 11 % 2 ^ 16);
@@ -82,9 +97,25 @@ local_of place n = record {
   at = number_of place;
   regs =
       number_of_class n.class ∷ n.source.protocol ∷ n.source.address ∷ n.source.port
-      ∷ (n.dest_port + 2 ^ 16 * number_of_segment n.segment) ∷ n.time ∷ n.word ∷ n.port ∷ n.freed.protocol
-      ∷ n.freed.port ∷ n.target.address ∷ n.target.port ∷ [];
+      ∷ packed n.dest_port n.segment ∷ n.time ∷ n.word_or_reason ∷ n.port ∷ n.freed.protocol ∷ n.freed.port
+      ∷ n.target.address ∷ n.target.port ∷ [];
 }
+
+-- which of the two numbers it is, says the place: the random word, until a port is taken, or the reason for a drop
+
+abbrev pub drawn_word : Noted → ℕ
+drawn_word n = n.word_or_reason
+
+abbrev pub drop_reason : Noted → ℕ
+drop_reason n = n.word_or_reason
+
+-- no outside port; a packet whose host may have no mapping more has it in place of one
+
+abbrev pub no_port : ℕ
+no_port = 0
+
+abbrev pub is_refused : Noted → Bool
+is_refused n = n.port == no_port
 
 -- the outside port of its source, and the one that it goes to
 abbrev pub source_key : Noted → PortKey

@@ -14,8 +14,8 @@ use Rattle.nat_box.specs.declared.place.Place.TheVariants.{FindsOrBinds, Unbinds
 use Rattle.nat_box.specs.declared.value.NatValue.{NatValue}
 use Rattle.nat_box.specs.declared.value.NatValue.TheVariants.{Dropped, Free, Mapped, Taken}
 use Rattle.nat_box.specs.Places.{place_numbered, noted, source_key}
-use Rattle.nat_box.specs.Nat.{Settings, reverse_table, nat_meaning}
-use Rattle.nat_box.specs.Lawful.{AreSettings}
+use Rattle.nat_box.specs.Settings.{Settings, AreSettings}
+use Rattle.nat_box.specs.Nat.{reverse_table, nat_meaning}
 
 abbrev pub Has : {X : Type 0} → List X → X → Type 0
 Has [] e = ⊥

@@ -2,9 +2,10 @@
 use Rattle.std.specs.Prelude.{ℕ, ◌==◌, if◌then◌else◌, List, [], ◌∷◌}
 use Rattle.nat_tables.specs.Forwards.{Forwards, keep}
 use Rattle.nat_tables.specs.Reverses.{Reverses, bind}
-use Rattle.nat_box.specs.declared.nat.StaticPort.{StaticPort}
+use Rattle.nat_box.specs.declared.settings.StaticPort.{StaticPort}
 use Rattle.nat_box.specs.Statics.{inside_of, outside_of}
-use Rattle.nat_box.specs.Nat.{Settings, forward_table, reverse_table}
+use Rattle.nat_box.specs.Settings.{Settings}
+use Rattle.nat_box.specs.Nat.{forward_table, reverse_table}
 
 -- into the forward table of its endpoint
 

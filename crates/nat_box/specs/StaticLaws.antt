@@ -8,9 +8,10 @@ use Rattle.nat_tables.specs.Keys.{same_endpoint, same_port}
 use Rattle.nat_tables.specs.Forwards.{Misses, AreMappings, kept_slot, HasKept}
 use Rattle.nat_tables.specs.Reverses.{IsUnbound, AreBound}
 use Rattle.flow_boxes.proofs.Fitting.{same_self}
-use Rattle.nat_box.specs.declared.nat.StaticPort.{StaticPort}
+use Rattle.nat_box.specs.declared.settings.StaticPort.{StaticPort}
 use Rattle.nat_box.specs.Statics.{inside_of, outside_of, is_whole, clash, is_new, kept_behind, kept, IsStatic}
-use Rattle.nat_box.specs.Nat.{Settings, forward_table, reverse_table, kept_mappings, kept_bound, MayMap, MayBind}
+use Rattle.nat_box.specs.Settings.{Settings}
+use Rattle.nat_box.specs.Nat.{forward_table, reverse_table, kept_mappings, kept_bound, MayMap, MayBind}
 
 -- each number is within its width
 pub record IsWhole (p : StaticPort) : Type 0 where

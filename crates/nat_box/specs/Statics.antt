@@ -6,7 +6,7 @@ use Rattle.nat_tables.specs.declared.entries.PortKey.{PortKey}
 use Rattle.nat_tables.specs.Keys.{same_endpoint, same_port, port_key}
 use Rattle.nat_tables.specs.Ports.{has_protocol}
 use Rattle.flow_boxes.specs.Flows.{endpoint}
-use Rattle.nat_box.specs.declared.nat.StaticPort.{StaticPort}
+use Rattle.nat_box.specs.declared.settings.StaticPort.{StaticPort}
 
 abbrev pub inside_of : StaticPort → Endpoint
 inside_of p = endpoint p.protocol p.address p.port

@@ -1,10 +1,17 @@
 ghost use Rattle.std.specs.Prelude.{◌≡◌, ◌≤◌};
 ghost use Rattle.nat_box.specs.Places.{number_of, place_numbered, number_of_class, class_of, noted};
 ghost use Rattle.nat_box.specs.Places.{local_of, source_key, dest_key, number_of_segment};
-ghost use Rattle.nat_box.specs.Places.{segment_numbered};
+ghost use Rattle.nat_box.specs.Places.{packed, packed_port, packed_segment};
+ghost use Rattle.nat_box.specs.Places.{drawn_word, drop_reason, is_refused};
 
 use box_program::Local;
 use nat_tables::{Endpoint, PortKey, Segment};
+
+/// The register of a Local in which a packet that is counted as dropped has the reason.
+pub const REASON_REGISTER: usize = 6;
+
+/// No outside port: a mapping has another.
+pub(crate) const NO_PORT: u16 = 0;
 
 /// What is done next with a packet.
 #[derive(Clone, Copy, Debug, PartialEq, Eq)]
@@ -130,7 +137,7 @@ impl Class {
     }
 }
 
-/// The number of a kind of segments in a Local.
+/// The number of a kind of segments.
 fn number_of_segment(segment: Segment) -> u64
     ensures number { result ≡ number_of_segment segment }
     ensures few { result ≤ 3 }
@@ -143,11 +150,25 @@ fn number_of_segment(segment: Segment) -> u64
     }
 }
 
-/// The kind of segments of a number.
-fn segment_numbered(number: u64) -> Segment
-    ensures { result ≡ segment_numbered number }
+/// A port and a kind of segments in one register: the port in its low 16 bits, and the kind above them.
+fn packed(port: u16, segment: Segment) -> u64
+    ensures { result ≡ packed port segment }
 {
-    match number {
+    u64::from(port) + (1 << 16) * number_of_segment(segment)
+}
+
+/// The port that a register has in its low 16 bits.
+fn packed_port(register: u64) -> u16
+    ensures { result ≡ packed_port register }
+{
+    (register % (1 << 16)) as u16
+}
+
+/// The kind of segments that a register has above its low 16 bits.
+fn packed_segment(register: u64) -> Segment
+    ensures { result ≡ packed_segment register }
+{
+    match register / (1 << 16) {
         0 => Segment::Silent,
         1 => Segment::Opens,
         2 => Segment::Carries,
@@ -167,9 +188,10 @@ pub struct Noted {
     pub segment: Segment,
     /// The time that it was told, in microseconds.
     pub time: u64,
-    /// The word that it was told, or the reason for which it is dropped.
-    pub word: u64,
-    /// The outside port of its source, or the one that is about to be.
+    /// One of two numbers, by its place: the random word that it was told, or the reason for which it is dropped.
+    pub word_or_reason: u64,
+    /// The outside port of its source, or the one that is about to be; `NO_PORT` where its host may have no mapping
+    /// more.
     pub port: u16,
     /// A port that is to be given back.
     pub freed: PortKey,
@@ -190,10 +212,10 @@ impl Noted {
                 address: (local.regs[2] % (1 << 32)) as u32,
                 port: (local.regs[3] % (1 << 16)) as u16,
             },
-            dest_port: (local.regs[4] % (1 << 16)) as u16,
-            segment: segment_numbered(local.regs[4] / (1 << 16)),
+            dest_port: packed_port(local.regs[4]),
+            segment: packed_segment(local.regs[4]),
             time: local.regs[5],
-            word: local.regs[6],
+            word_or_reason: local.regs[REASON_REGISTER],
             port: (local.regs[7] % (1 << 16)) as u16,
             freed: PortKey {
                 protocol: (local.regs[8] % (1 << 8)) as u8,
@@ -205,6 +227,27 @@ impl Noted {
                 port: (local.regs[11] % (1 << 16)) as u16,
             },
         }
+    }
+
+    /// The random word that it was told, from then until it takes a port.
+    pub(crate) fn drawn_word(self) -> u64
+        ensures { result ≡ drawn_word self }
+    {
+        self.word_or_reason
+    }
+
+    /// The reason for which it is dropped, where it is counted as dropped.
+    pub(crate) fn drop_reason(self) -> u64
+        ensures { result ≡ drop_reason self }
+    {
+        self.word_or_reason
+    }
+
+    /// Whether it was refused a mapping, as its host may have none more.
+    pub(crate) fn is_refused(self) -> bool
+        ensures { result ≡ is_refused self }
+    {
+        self.port == NO_PORT
     }
 
     /// The outside port of its source.
@@ -248,9 +291,9 @@ impl Goes {
                 u64::from(noted.source.protocol),
                 u64::from(noted.source.address),
                 u64::from(noted.source.port),
-                u64::from(noted.dest_port) + (1 << 16) * number_of_segment(noted.segment),
+                packed(noted.dest_port, noted.segment),
                 noted.time,
-                noted.word,
+                noted.word_or_reason,
                 u64::from(noted.port),
                 u64::from(noted.freed.protocol),
                 u64::from(noted.freed.port),

@@ -9,18 +9,18 @@ use std::alloc::Global;
 impl Program for NatBox {
     ghost use Rattle.std.specs.Prelude.{◌≡◌, ◌≤◌};
     ghost use Rattle.nat_box.specs.Nat.{Fits};
-    ghost use Rattle.nat_box.specs.Boxes.{settings_of, box_meaning, box_lawful};
+    ghost use Rattle.nat_box.specs.Boxes.{box_meaning, box_lawful};
 
     type Value = NatValue;
 
     ghost meaning = { box_meaning };
 
-    ghost fits = { λ b. Fits (settings_of b) };
+    ghost fits = { λ b. Fits b.settings };
 
     ghost lawful = { box_lawful };
 
     fn vars(&self) -> u32 {
-        2 + 2 * self.shards
+        2 + 2 * self.settings.shards
     }
 
     fn fresh(&self, alloc: Global, var: u32) -> Result<NatValue, NoMemory> {
@@ -28,7 +28,7 @@ impl Program for NatBox {
             Ok(NatValue::Dropped(Drops::new()))
         } else if var == 1 {
             Ok(NatValue::Free(self.fresh_pool(alloc)?))
-        } else if var < 2 + self.shards {
+        } else if var < 2 + self.settings.shards {
             Ok(NatValue::Mapped(self.fresh_mappings(alloc, var)?))
         } else {
             Ok(NatValue::Taken(self.fresh_bound(alloc, var)?))
@@ -72,9 +72,9 @@ impl Program for NatBox {
         let noted = Noted::read_from(local);
         let goes = match value {
             NatValue::Dropped(drops) => noted.touch_drops(place, drops),
-            NatValue::Free(pool) => noted.touch_pool(self.limit, place, pool),
+            NatValue::Free(pool) => noted.touch_pool(self.settings.limit, place, pool),
             NatValue::Mapped(table) => {
-                let goes = noted.touch_mappings(self.limit, place, table)?;
+                let goes = noted.touch_mappings(self.settings.limit, place, table)?;
                 self.follow(&noted, table);
                 goes
             }

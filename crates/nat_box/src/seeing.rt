@@ -1,7 +1,6 @@
 ghost use Rattle.std.specs.Prelude.{◌≡◌, IfSome};
 ghost use Rattle.icmp_errors.specs.ErrorView.{IsErrorFrame};
 ghost use Rattle.nat_box.specs.Nat.{error_in, seen_as, flow_of_error, FitsSeen};
-ghost use Rattle.nat_box.specs.Boxes.{settings_of};
 ghost use Rattle.packet_headers.specs.View.{viewed};
 
 use crate::NatBox;
@@ -37,10 +36,10 @@ pub(crate) fn flow_of_error(error: &IcmpError) -> Flow
 impl NatBox {
     /// The error of ICMP that a frame is, where errors go through.
     fn error_in(&self, frame: &[u8], original: u32) -> Option<IcmpError>
-        ensures value { result ≡ error_in (settings_of self.now) frame.now original }
+        ensures value { result ≡ error_in self.now.settings frame.now original }
         ensures rewritable { IfSome result (λ error. IsErrorFrame frame.now error) }
     {
-        if self.errors {
+        if self.settings.errors {
             view_error(frame, original)
         } else {
             None
@@ -50,7 +49,7 @@ impl NatBox {
     /// What a frame is seen as that had so many bytes on the wire.
     pub(crate) fn seen(&self, frame: &[u8], original: u32) -> Seen
         ensures value { result
-            ≡ seen_as (settings_of self.now) frame.now original (viewed frame.now original) }
+            ≡ seen_as self.now.settings frame.now original (viewed frame.now original) }
         ensures rewritable { FitsSeen frame.now result }
     {
         match view(frame, original) {

@@ -4,10 +4,10 @@ ghost use Rattle.nat_box.specs.Statics.{inside_of, outside_of, is_whole, clash, 
 ghost use Rattle.nat_box.specs.Statics.{outside_ports};
 ghost use Rattle.nat_box.specs.Nat.{kept_mappings, kept_bound};
 ghost use Rattle.nat_box.specs.Starting.{mapped_one, mapped_all, bound_one, bound_all};
-ghost use Rattle.nat_box.specs.Boxes.{settings_of};
 
 use crate::{NatBox, StaticPort};
 use nat_tables::{Endpoint, Mappings, Pool, PortKey, Reverse};
+use packet_headers::{TCP, UDP};
 use plain_text::NoMemory;
 use std::alloc::Global;
 
@@ -37,7 +37,7 @@ impl StaticPort {
     fn is_whole(self) -> bool
         ensures { result ≡ is_whole self }
     {
-        (self.protocol == 6 || self.protocol == 17) && self.outside != 0
+        matches!(self.protocol, TCP | UDP) && self.outside != 0
     }
 
     /// Whether it has the endpoint of the other, or the outside port.
@@ -90,7 +90,7 @@ impl NatBox {
     /// Puts a static port into a forward table of this number, where it is that of its endpoint.
     fn keep_in(&self, port: StaticPort, var: u32, table: &mut Mappings) -> Result<(), NoMemory>
         ensures { OnOk result
-            (table.new ≡ mapped_one (settings_of self.now) var port table.old) }
+            (table.new ≡ mapped_one self.now.settings var port table.old) }
     {
         let key = port.inside();
         if self.forward_table(&key) == var {
@@ -107,9 +107,9 @@ impl NatBox {
         var: u32,
     ) -> Result<Mappings, NoMemory>
         ensures { IfOk result (λ table. table
-            ≡ mapped_all (settings_of self.now) var ports.now []) }
+            ≡ mapped_all self.now.settings var ports.now []) }
     {
-        let mut table = Mappings::new(alloc, self.limit.is_some());
+        let mut table = Mappings::new(alloc, self.settings.limit.is_some());
         for port in ports {
             self.keep_in(*port, var, &mut table)?;
         }
@@ -119,7 +119,7 @@ impl NatBox {
     /// Puts a static port into a reverse table of this number, where it is that of its outside port.
     fn bind_in(&self, port: StaticPort, var: u32, table: &mut Reverse) -> Result<(), NoMemory>
         ensures { OnOk result
-            (table.new ≡ bound_one (settings_of self.now) var port table.old) }
+            (table.new ≡ bound_one self.now.settings var port table.old) }
     {
         let key = port.outside_key();
         if self.reverse_table(&key) == var {
@@ -131,7 +131,7 @@ impl NatBox {
     /// A reverse table with these static ports, one after another.
     fn bound_of(&self, alloc: Global, ports: &[StaticPort], var: u32) -> Result<Reverse, NoMemory>
         ensures { IfOk result (λ table. table
-            ≡ bound_all (settings_of self.now) var ports.now []) }
+            ≡ bound_all self.now.settings var ports.now []) }
     {
         let mut table = Reverse::new(alloc);
         for port in ports {
@@ -143,19 +143,20 @@ impl NatBox {
     /// The pool at the start: the range without the static ports.
     pub(crate) fn fresh_pool(&self, alloc: Global) -> Result<Pool, NoMemory>
         ensures { IfOk result (λ pool. pool
-            ≡ pool_without (outside_ports (kept self.now.statics)) self.now.low self.now.high) }
+            ≡ pool_without (outside_ports (kept self.now.settings.statics))
+            self.now.settings.low self.now.settings.high) }
     {
-        let ports = kept(alloc, self.statics.as_slice())?;
+        let ports = kept(alloc, self.settings.statics.as_slice())?;
         let out = outside_ports(alloc, ports.as_slice())?;
-        Pool::without(alloc, out.as_slice(), self.low, self.high)
+        Pool::without(alloc, out.as_slice(), self.settings.low, self.settings.high)
     }
 
     /// A forward table at the start: the static ports of its endpoints.
     pub(crate) fn fresh_mappings(&self, alloc: Global, var: u32) -> Result<Mappings, NoMemory>
         ensures { IfOk result (λ table. table
-            ≡ kept_mappings (settings_of self.now) var (kept self.now.statics)) }
+            ≡ kept_mappings self.now.settings var (kept self.now.settings.statics)) }
     {
-        let ports = kept(alloc, self.statics.as_slice())?;
+        let ports = kept(alloc, self.settings.statics.as_slice())?;
         let table = self.mappings_of(alloc, ports.as_slice(), var)?;
         Ok(table)
     }
@@ -163,9 +164,9 @@ impl NatBox {
     /// A reverse table at the start: the static ports that it has.
     pub(crate) fn fresh_bound(&self, alloc: Global, var: u32) -> Result<Reverse, NoMemory>
         ensures { IfOk result (λ table. table
-            ≡ kept_bound (settings_of self.now) var (kept self.now.statics)) }
+            ≡ kept_bound self.now.settings var (kept self.now.settings.statics)) }
     {
-        let ports = kept(alloc, self.statics.as_slice())?;
+        let ports = kept(alloc, self.settings.statics.as_slice())?;
         let table = self.bound_of(alloc, ports.as_slice(), var)?;
         Ok(table)
     }

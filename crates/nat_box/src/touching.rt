@@ -1,18 +1,19 @@
-ghost use Rattle.std.specs.Prelude.{◌≡◌, ℕ, IfOk, OnErr, Option, Some, None, ◌==◌};
+ghost use Rattle.std.specs.Prelude.{◌≡◌, ℕ, IfOk, OnErr, Option, Some, None};
 ghost use Rattle.nat_box.specs.Nat.{goes, dropped, mapped, after_find, after_reserve, after_bind};
 ghost use Rattle.nat_box.specs.Nat.{after_endpoint, looked, told, followed_by};
-ghost use Rattle.nat_box.specs.Nat.{looked_by, used_port, after_port, touched_by};
+ghost use Rattle.nat_box.specs.Nat.{looked_by, live_port, after_port, touched_by};
 ghost use Rattle.nat_box.specs.Nat.{after_find_within, after_bind_within, after_lost};
 ghost use Rattle.nat_box.specs.declared.place.Place.TheVariants.{FindsMapping, FindsOrBinds};
 ghost use Rattle.nat_box.specs.declared.place.Place.TheVariants.{UnbindsLost};
-ghost use Rattle.nat_box.specs.Places.{source_key};
+ghost use Rattle.nat_box.specs.Places.{source_key, is_refused};
 ghost use Rattle.nat_tables.specs.Forwards.{lives};
-ghost use Rattle.nat_box.specs.Boxes.{settings_of};
 ghost use Rattle.nat_box.specs.declared.value.NatValue.TheVariants.{Dropped, Free, Mapped, Taken};
 
+use crate::place::NO_PORT;
 use crate::{Class, Goes, NatBox, Noted, Place};
 use flow_boxes::Drops;
 use nat_tables::{Bind, Endpoint, Find, Freed, Mappings, Pool, Reverse};
+use packet_headers::TCP;
 use plain_text::NoMemory;
 
 /// The reason for which a packet is dropped that goes to a port with no mapping.
@@ -40,7 +41,7 @@ impl Noted {
         Goes::to(
             Place::CountsDrop,
             Noted {
-                word: reason,
+                word_or_reason: reason,
                 ..self
             },
         )
@@ -119,15 +120,15 @@ impl Noted {
     {
         match bind {
             Some(bind) => self.after_bind(bind),
-            None => self.loses(0),
+            None => self.loses(NO_PORT),
         }
     }
 
     /// The port that it took in vain is given back. Its source has its mapping, or could have none.
     fn after_lost(self) -> Goes
-        ensures { result ≡ after_lost self (self.port == 0) }
+        ensures { result ≡ after_lost self (is_refused self) }
     {
-        if self.port == 0 {
+        if self.is_refused() {
             self.dropped(OVER_LIMIT)
         } else {
             self.mapped()
@@ -150,9 +151,9 @@ impl Noted {
         }
     }
 
-    /// The port of its source's mapping, where there is one that is not idle. It refreshes nothing.
-    fn used_port(&self, table: &Mappings) -> Option<u16>
-        ensures { result ≡ used_port self.now.source self.now.time table.now }
+    /// The port of its source's mapping, where there is one that is live. It refreshes nothing.
+    fn live_port(&self, table: &Mappings) -> Option<u16>
+        ensures { result ≡ live_port self.now.source self.now.time table.now }
     {
         match table.slot_of(&self.source) {
             Some(slot) if !slot.is_idle(&self.source, self.time) => Some(slot.port),
@@ -187,7 +188,7 @@ impl Noted {
             → (Dropped drops.new, result) ≡ touched_by limit place (Dropped drops.old) self }
     {
         if place == Place::CountsDrop {
-            drops.add(self.word);
+            drops.add(self.drop_reason());
         }
         Goes::to(Place::Ends, self)
     }
@@ -198,7 +199,8 @@ impl Noted {
     {
         match place {
             Place::ReservesPort => {
-                self.after_reserve(pool.reserve(self.source.protocol, self.source.port, self.word))
+                let source = self.source;
+                self.after_reserve(pool.reserve(source.protocol, source.port, self.drawn_word()))
             }
             Place::GivesBackFreed => {
                 pool.give_back(self.freed.protocol, self.freed.port);
@@ -295,7 +297,7 @@ impl Noted {
     {
         match place {
             Place::AsksIfLives => self.after_asking(table),
-            Place::FindsPort => self.after_port(self.used_port(table)),
+            Place::FindsPort => self.after_port(self.live_port(table)),
             _ => Goes::to(Place::Ends, self),
         }
     }
@@ -329,7 +331,7 @@ impl Noted {
             Place::DrawsWord => Goes::to(
                 Place::ReservesPort,
                 Noted {
-                    word: answer,
+                    word_or_reason: answer,
                     ..self
                 },
             ),
@@ -341,12 +343,12 @@ impl Noted {
 impl NatBox {
     /// Notes a packet's segment in the mapping of its source, where connections are followed and it is of TCP.
     pub(crate) fn follow(&self, noted: &Noted, table: &mut Mappings)
-        ensures { table.new ≡ followed_by (settings_of self.now).closing noted.now table.old }
+        ensures { table.new ≡ followed_by self.now.settings.closing noted.now table.old }
     {
-        let Some(seconds) = self.closing else {
+        let Some(seconds) = self.settings.closing else {
             return;
         };
-        if noted.source.protocol == 6 {
+        if noted.source.protocol == TCP {
             table.mark(&noted.source, seconds, noted.segment);
         }
     }

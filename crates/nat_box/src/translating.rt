@@ -4,8 +4,8 @@ ghost use Rattle.icmp_errors.specs.ErrorView.{IsErrorFrame};
 ghost use Rattle.nat_box.specs.Nat.{begun, begun_as, frame_out, error_out, bytes_out};
 ghost use Rattle.nat_box.specs.Nat.{noted_flow, nothing_noted, FitsSeen};
 ghost use Rattle.nat_box.specs.Nat.{segment_of, segment_told};
-ghost use Rattle.nat_box.specs.Boxes.{settings_of};
 
+use crate::place::NO_PORT;
 use crate::seeing::flow_of_error;
 use crate::{Class, Goes, NatBox, Noted, Place, Seen};
 use flow_boxes::{STRAY, reason_of};
@@ -52,8 +52,8 @@ impl Noted {
             dest_port: 0,
             segment: Segment::Silent,
             time: 0,
-            word: reason,
-            port: 0,
+            word_or_reason: reason,
+            port: NO_PORT,
             freed: PortKey {
                 protocol: 0,
                 port: 0,
@@ -76,8 +76,8 @@ impl Noted {
             dest_port: flow.dest_port,
             segment,
             time: 0,
-            word: 0,
-            port: 0,
+            word_or_reason: 0,
+            port: NO_PORT,
             freed: PortKey {
                 protocol: 0,
                 port: 0,
@@ -94,9 +94,9 @@ impl Noted {
 impl NatBox {
     /// What a segment with these control bits tells: nothing where connections are not followed.
     fn segment_told(&self, flags: u8) -> Segment
-        ensures { result ≡ segment_told (settings_of self.now).closing flags }
+        ensures { result ≡ segment_told self.now.settings.closing flags }
     {
-        match self.closing {
+        match self.settings.closing {
             Some(_) => segment_of(flags),
             None => Segment::Silent,
         }
@@ -105,7 +105,7 @@ impl NatBox {
     /// Where a flow of this class begins, or one that is stray.
     fn begun_as(&self, flow: &Flow, class: Option<Class>) -> Goes
         ensures { result
-            ≡ begun_as (segment_told (settings_of self.now).closing flow.now.flags) flow.now class }
+            ≡ begun_as (segment_told self.now.settings.closing flow.now.flags) flow.now class }
     {
         match class {
             Some(class) => {
@@ -118,7 +118,7 @@ impl NatBox {
 
     /// Where a packet begins, by what it is seen as.
     pub(crate) fn begun(&self, seen: Seen) -> Goes
-        ensures { result ≡ begun (settings_of self.now) seen }
+        ensures { result ≡ begun self.now.settings seen }
     {
         match seen {
             Seen::OfFlow(flow) => self.begun_as(&flow, self.class_of(flow.source, flow.dest)),
@@ -136,14 +136,14 @@ impl NatBox {
     pub(crate) fn translate(&self, frame: &mut [u8], flow: &Flow, noted: &Noted)
         requires { CanRewrite frame.old flow.now }
         ensures { frame.new
-            ≡ frame_out (settings_of self.now) noted.now.class frame.old flow.now noted.now }
+            ≡ frame_out self.now.settings noted.now.class frame.old flow.now noted.now }
     {
         let target = &noted.target;
         match noted.class {
-            Class::Outbound => set_source(frame, flow, self.outside, noted.port),
+            Class::Outbound => set_source(frame, flow, self.settings.outside, noted.port),
             Class::Inbound => set_dest(frame, flow, target.address, target.port),
             Class::Hairpin => {
-                set_source(frame, flow, self.outside, noted.port);
+                set_source(frame, flow, self.settings.outside, noted.port);
                 set_dest(frame, flow, target.address, target.port);
             }
             Class::OutboundError => {}
@@ -156,12 +156,17 @@ impl NatBox {
     fn translate_error(&self, frame: &mut [u8], error: &IcmpError, noted: &Noted)
         requires { IsErrorFrame frame.old error.now }
         ensures { frame.new
-            ≡ error_out (settings_of self.now) noted.now.class frame.old error.now noted.now }
+            ≡ error_out self.now.settings noted.now.class frame.old error.now noted.now }
     {
         let target = &noted.target;
         match noted.class {
             Class::Inbound => set_quoted_source(frame, error, target.address, target.port),
-            Class::OutboundError => set_quoted_dest(frame, error, self.outside, noted.port),
+            Class::OutboundError => set_quoted_dest(
+                frame,
+                error,
+                self.settings.outside,
+                noted.port,
+            ),
             Class::Outbound | Class::Hairpin => {}
         }
     }
@@ -176,7 +181,7 @@ impl NatBox {
     ) -> Result<Bytes, NoMemory>
         requires { CanRewrite frame.now flow.now }
         ensures { IfOk result (λ bytes. bytes
-            ≡ frame_out (settings_of self.now) noted.now.class frame.now flow.now noted.now) }
+            ≡ frame_out self.now.settings noted.now.class frame.now flow.now noted.now) }
     {
         let mut copy = Vec::from_slice(alloc, frame)?;
         self.translate(&mut copy, flow, noted);
@@ -193,7 +198,7 @@ impl NatBox {
     ) -> Result<Bytes, NoMemory>
         requires { IsErrorFrame frame.now error.now }
         ensures { IfOk result (λ bytes. bytes
-            ≡ error_out (settings_of self.now) noted.now.class frame.now error.now noted.now) }
+            ≡ error_out self.now.settings noted.now.class frame.now error.now noted.now) }
     {
         let mut copy = Vec::from_slice(alloc, frame)?;
         self.translate_error(&mut copy, error, noted);
@@ -210,7 +215,7 @@ impl NatBox {
     ) -> Result<Bytes, NoMemory>
         requires { FitsSeen frame.now seen }
         ensures { IfOk result (λ bytes. bytes
-            ≡ bytes_out (settings_of self.now) frame.now noted.now seen) }
+            ≡ bytes_out self.now.settings frame.now noted.now seen) }
     {
         match seen {
             Seen::OfFlow(flow) => self.translated(alloc, frame, &flow, noted),

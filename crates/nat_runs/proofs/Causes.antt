@@ -1,6 +1,6 @@
 -- Each drop that is counted has its cause.
-use Rattle.std.proofs.Common.{◌≡◌, ℕ, ◌+◌, ◌*◌, ◌-◌, ◌<◌, Bool, List, refl, sym, ap, ◌∙◌, subst}
-use Rattle.std.proofs.Common.{true, ◌⊎◌, arith, Option, Some, None}
+use Rattle.std.proofs.Common.{◌≡◌, ℕ, ◌+◌, ◌*◌, ◌-◌, ◌<◌, Bool, List, refl, sym, ap, ◌∙◌, subst, true, ◌⊎◌, arith}
+use Rattle.std.proofs.Common.{Option, Some, None}
 use Rattle.std.specs.Prelude.{cond, nat_eq}
 use Rattle.plain_text.specs.declared.packet.Packet.{Packet}
 use Rattle.entry_order.specs.Log.{Entry, places}
@@ -19,9 +19,11 @@ use Rattle.nat_box.specs.declared.place.Noted.{Noted}
 use Rattle.flow_boxes.specs.declared.drops.Drops.{Drops}
 use Rattle.nat_box.specs.declared.value.NatValue.{NatValue}
 use Rattle.nat_box.specs.declared.value.NatValue.TheVariants.{Dropped}
-use Rattle.nat_box.specs.Places.{noted}
-use Rattle.nat_box.specs.Nat.{Settings, touched_by, followed, nat_meaning, Fits}
-use Rattle.nat_box.specs.Lawful.{AreSettings, var_of, touches_it, nat_lawful}
+use Rattle.nat_box.specs.Places.{noted, drop_reason}
+use Rattle.nat_box.specs.Settings.{Settings, AreSettings}
+use Rattle.nat_box.specs.Nat.{touched_by, followed, nat_meaning, Fits}
+use Rattle.nat_box.specs.Ranks.{var_of, touches_it}
+use Rattle.nat_box.specs.Lawful.{nat_lawful}
 use Rattle.flow_boxes.proofs.HeldInputs.{IsHeld, run_holds}
 use Rattle.nat_box.proofs.Making.{comes_to}
 use Rattle.nat_runs.specs.Met.{Met, met_of}
@@ -32,7 +34,8 @@ use Rattle.nat_runs.proofs.ThreadMoves.{TouchKind, finds, unbinds_freed, gives_f
 use Rattle.nat_runs.proofs.ThreadMoves.{unbinds_lost, gives_lost, counts, touch_kind, at, touched_below, by_move}
 use Rattle.nat_runs.proofs.ThreadMoves.{entry_is}
 use Rattle.nat_runs.proofs.FullHosts.{FullAt, Full, run_full}
-use Rattle.nat_runs.proofs.Knowing.{KnownAt, Known, run_known}
+use Rattle.nat_runs.proofs.Known.{KnownAt, Known}
+use Rattle.nat_runs.proofs.Knowing.{run_known}
 
 -- what a count leaves, and its cause
 abbrev Counted : Settings → Met → Type 0 → Bool → Packet → NatValue → NatValue → Type 0
@@ -52,9 +55,9 @@ counted s m U drew p _ _ n limit (finds_or_binds es) e k full = absurd (omega ar
 counted s m U drew p _ _ n limit (unbinds_lost bs) e k full = absurd (omega arith)
 counted s m U drew p _ _ n limit (gives_lost pool) e k full = absurd (omega arith)
 counted s m U drew p _ _ n None (counts d) e k full =
-    (d, n.word, refl, ap Dropped (drop_is n.word d k.0 k.1), k.2, full)
+    (d, drop_reason n, refl, ap Dropped (drop_is (drop_reason n) d k.0 k.1), k.2, full)
 counted s m U drew p _ _ n (Some most) (counts d) e k full =
-    (d, n.word, refl, ap Dropped (drop_is n.word d k.0 k.1), k.2, full)
+    (d, drop_reason n, refl, ap Dropped (drop_is (drop_reason n) d k.0 k.1), k.2, full)
 
 module _ (s : Settings) (is : AreSettings s) (packets : List Packet) (value : ℕ → NatValue) (t : ℕ)
     (earlier : List (Step NatValue)) (taken taken_then : ℕ)

@@ -11,12 +11,13 @@ use Rattle.nat_box.specs.declared.place.Place.{Place}
 use Rattle.nat_box.specs.declared.place.Place.TheVariants.{FindsPort}
 use Rattle.nat_box.specs.declared.seeing.Seen.{Seen}
 use Rattle.nat_box.specs.Places.{noted}
-use Rattle.nat_box.specs.Nat.{Settings, error_or, seen_as, seen_by, begun, bytes_out, local_at}
+use Rattle.nat_box.specs.Settings.{Settings}
+use Rattle.nat_box.specs.Nat.{error_or, seen_as, seen_by, begun, bytes_out, local_at}
 use Rattle.nat_box.proofs.SeenAs.{lets_errors}
 use Rattle.nat_runs.specs.Met.{met_of}
-use Rattle.nat_runs.specs.Errors.{flow_alone, BeginsByFlow, SendsByFlow, OtherMovesAreTheSame}
-use Rattle.nat_runs.specs.Errors.{NoneFindsPort}
-use Rattle.nat_runs.proofs.Knowing.{KnownAt, Known, run_known}
+use Rattle.nat_runs.specs.Errors.{flow_alone, BeginsByFlow, SendsByFlow, OtherMovesAreTheSame, NoneFindsPort}
+use Rattle.nat_runs.proofs.Known.{KnownAt, Known}
+use Rattle.nat_runs.proofs.Knowing.{run_known}
 
 seen_alone : (s : Settings) (p : Packet) → s.errors ≡ false → seen_by s p ≡ flow_alone (viewed p.bytes p.original)
 seen_alone s p none = by (viewed p.bytes p.original)

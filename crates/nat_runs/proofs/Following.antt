@@ -16,7 +16,8 @@ use Rattle.nat_box.specs.declared.place.Noted.{Noted}
 use Rattle.nat_box.specs.declared.value.NatValue.{NatValue}
 use Rattle.nat_box.specs.declared.value.NatValue.TheVariants.{Dropped, Free, Mapped, Taken}
 use Rattle.nat_box.specs.Places.{place_numbered, noted}
-use Rattle.nat_box.specs.Nat.{Settings, flow_in, class_in, segment_told, begun_by, touched_by, followed_by}
+use Rattle.nat_box.specs.Settings.{Settings}
+use Rattle.nat_box.specs.Nat.{flow_in, class_in, segment_told, begun_by, touched_by, followed_by}
 use Rattle.nat_box.specs.Nat.{followed}
 use Rattle.nat_box.specs.Nat.{local_at, nat_meaning, HasPhase, MayMap, Fits}
 use Rattle.nat_box.specs.Lawful.{nat_lawful}

@@ -13,8 +13,7 @@ use Rattle.entry_order.proofs.Order.{is_or}
 use Rattle.packet_headers.specs.declared.flow.Flow.{Flow}
 use Rattle.packet_headers.specs.declared.flow.NotFlow.{NotFlow}
 use Rattle.plain_machine.specs.Machine.{Hand, Thread, Effect, Moves, held_move}
-use Rattle.plain_machine.specs.History.{Act, Did, Step, act_of, entry_of, log_of, thread_after, value_after}
-use Rattle.plain_machine.specs.History.{IsHistory}
+use Rattle.plain_machine.specs.History.{Act, Did, Step, act_of, entry_of, log_of, thread_after, value_after, IsHistory}
 use Rattle.plain_machine.proofs.Histories.{not_eq, is_eq}
 use Rattle.plain_machine.proofs.Bounds.{values_fit}
 use Rattle.nat_tables.specs.declared.entries.Endpoint.{Endpoint}
@@ -24,8 +23,8 @@ use Rattle.nat_tables.specs.declared.entries.Find.TheVariants.{Live, Absent}
 use Rattle.nat_tables.specs.declared.entries.Bind.{Bind}
 use Rattle.nat_tables.specs.declared.entries.Bind.TheVariants.{Bound, Other}
 use Rattle.nat_tables.specs.Ports.{reserve}
-use Rattle.nat_tables.specs.Forwards.{Forwards, is_idle, slot_of, first_idle, found_there, found, mark, find}
-use Rattle.nat_tables.specs.Forwards.{lives, without, find_or_bind}
+use Rattle.nat_tables.specs.Forwards.{Forwards, is_idle, slot_of, first_idle, found_there, found, mark, find, lives}
+use Rattle.nat_tables.specs.Forwards.{without, find_or_bind}
 use Rattle.nat_tables.specs.Hosts.{count_of, is_full, first_idle_of, given_up, found_within, bind_within}
 use Rattle.nat_tables.specs.Reverses.{endpoint_of}
 use Rattle.nat_tables.proofs.IdleLemmas.{unmarked}
@@ -42,29 +41,28 @@ use Rattle.nat_box.specs.declared.value.NatValue.{NatValue}
 use Rattle.nat_box.specs.declared.value.NatValue.TheVariants.{Free, Mapped}
 use Rattle.flow_boxes.specs.Flows.{source_of}
 use Rattle.flow_boxes.proofs.HeldInputs.{IsHeld, run_holds}
-use Rattle.nat_box.specs.Places.{place_numbered, noted, dest_key}
-use Rattle.nat_box.specs.Nat.{Settings, goes, dropped, over_limit, forward_table, class_seen, flow_seen, begun_by}
-use Rattle.nat_box.specs.Nat.{mapped}
+use Rattle.nat_box.specs.Places.{place_numbered, noted, dest_key, drawn_word, drop_reason, is_refused}
+use Rattle.nat_box.specs.Settings.{Settings, AreSettings}
+use Rattle.nat_box.specs.Nat.{goes, dropped, over_limit, forward_table, class_seen, flow_seen, begun_by, mapped}
 use Rattle.nat_box.specs.Nat.{after_find, after_reserve, after_bind, after_find_within, after_bind_within, after_lost}
-use Rattle.nat_box.specs.Nat.{touched_by, followed_by, followed, after_endpoint, looked_by, used_port, after_port}
-use Rattle.nat_box.specs.Nat.{looked}
-use Rattle.nat_box.specs.Nat.{after_time, told, local_at, begun, seen_by, nat_meaning, Fits}
+use Rattle.nat_box.specs.Nat.{touched_by, followed_by, followed, after_endpoint, looked_by, live_port, after_port}
+use Rattle.nat_box.specs.Nat.{looked, after_time, told, local_at, begun, seen_by, nat_meaning, Fits}
 use Rattle.nat_box.specs.Noting.{place_again, IsNoted, is_noted, noted_again}
-use Rattle.nat_box.specs.Lawful.{AreSettings, var_of, touches_it, nat_lawful}
+use Rattle.nat_box.specs.Ranks.{var_of, touches_it}
+use Rattle.nat_box.specs.Lawful.{nat_lawful}
 use Rattle.nat_box.specs.Sentences.{mappings_in}
 use Rattle.nat_box.proofs.Noting.{touched_noted}
 use Rattle.nat_box.proofs.Emissions.{worded}
 use Rattle.nat_box.proofs.Making.{goes_on}
 use Rattle.nat_runs.specs.Met.{Met, nothing_met, met_by_touch, met_by_read, met_by, met_of}
-use Rattle.nat_runs.specs.FullHosts.{HasRoom, DrawsHadRoom, drawn_by, has_drawn, ChangesNothing}
-use Rattle.nat_runs.specs.FullHosts.{HasChangedNothing}
+use Rattle.nat_runs.specs.FullHosts.{HasRoom, DrawsHadRoom, drawn_by, has_drawn, ChangesNothing, HasChangedNothing}
 use Rattle.nat_runs.proofs.TableEntries.{slot_in, idle_is}
 use Rattle.nat_runs.proofs.Within.{idle_of_host}
 use Rattle.nat_runs.proofs.ThreadMoves.{TouchKind, finds, unbinds_freed, gives_freed, reserves, binds, finds_or_binds}
 use Rattle.nat_runs.proofs.ThreadMoves.{unbinds_lost, gives_lost, counts, LookKind, finds_endpoint, asks, finds_port}
 use Rattle.nat_runs.proofs.ThreadMoves.{touch_kind, look_kind, at_clock, at_draw, at, touched_below, read_below}
 use Rattle.nat_runs.proofs.ThreadMoves.{by_move}
-use Rattle.nat_runs.proofs.Knowing.{IsBase, IsWanting, KnownAt, Known, outward_flow, timed, time_noted, looked_noted}
+use Rattle.nat_runs.proofs.Known.{IsBase, IsWanting, KnownAt, Known, outward_flow, timed, time_noted, looked_noted}
 use Rattle.nat_runs.proofs.Knowing.{run_known}
 use Rattle.nat_runs.proofs.ThreadMoves.{entry_is}
 
@@ -89,7 +87,7 @@ FullAt s m U d UnbindsLost n = d ≡ true
 FullAt s m U d GivesBackLost n = d ≡ true
 FullAt s m U d FindsEndpoint n = Unit {0}
 FullAt s m U d AsksIfLives n = Unit {0}
-FullAt s m U d CountsDrop n = n.word ≡ over_limit → U ⊎ (d ≡ true)
+FullAt s m U d CountsDrop n = drop_reason n ≡ over_limit → U ⊎ (d ≡ true)
 FullAt s m U d SendsOut n = Unit {0}
 FullAt s m U d Ends n = Unit {0}
 FullAt s m U d FindsPort n = Unit {0}
@@ -178,7 +176,7 @@ module _ (s : Settings) (m : Met) (U : Type 0) (d : Bool) where
       by : (b : Bool) → FullAt s m U d (looked_by n b).place (looked_by n b).noted
       by true = tt
       by false = not_over n
-  looked_full _ _ n (finds_port es) = by (used_port n.source n.time es)
+  looked_full _ _ n (finds_port es) = by (live_port n.source n.time es)
     where
       by : (o : Option ℕ) → FullAt s m U d (after_port n o).place (after_port n o).noted
       by (Some port) = tt
@@ -300,11 +298,11 @@ module _ (s : Settings) (U : Type 0) (d : Bool) (value : ℕ → NatValue) (v : 
   touch_full m _ _ n (Some most) limit is (gives_freed pool) it k = k
   touch_full m _ _ n None limit is (reserves pool) it k =
       reserved_full s (met_after m None ReservesPort (Free pool) n) (LeftBy None ReservesPort (Free pool) n) d n
-      (reserve n.source.protocol n.source.port n.word pool).0 k
+      (reserve n.source.protocol n.source.port (drawn_word n) pool).0 k
   touch_full m _ _ n (Some most) limit is (reserves pool) it k =
       reserved_full s (met_after m (Some most) ReservesPort (Free pool) n) (LeftBy (Some most) ReservesPort (Free pool)
       n)
-      d n (reserve n.source.protocol n.source.port n.word pool).0 k
+      d n (reserve n.source.protocol n.source.port (drawn_word n) pool).0 k
   touch_full m _ _ n None limit is (binds bs) it k = k
   touch_full m _ _ n (Some most) limit is (binds bs) it k = k
   touch_full m _ _ n None limit is (finds_or_binds es) it k =
@@ -320,7 +318,7 @@ module _ (s : Settings) (U : Type 0) (d : Bool) (value : ℕ → NatValue) (v : 
   touch_full m _ _ n (Some most) limit is (gives_lost pool) it k =
       lost_full s (met_after m (Some most) GivesBackLost (Free pool) n) (LeftBy (Some most) GivesBackLost (Free pool)
       n) d
-      n (n.port == 0) k
+      n (is_refused n) k
   touch_full m _ _ n None limit is (counts drops) it k = tt
   touch_full m _ _ n (Some most) limit is (counts drops) it k = tt
 
@@ -362,7 +360,7 @@ module _ (s : Settings) (is : AreSettings s) (packets : List Packet) (value : �
   told_word h a place q =
       let n : Noted = noted h.place in
       subst (λ (z : Place). Full s m (((v : ℕ) → value v ≡ value v) × U) true (goes_on h (told z a n))) (sym q)
-      (full_on s m (((v : ℕ) → value v ≡ value v) × U) true h (goes ReservesPort (record n { word = a }))
+      (full_on s m (((v : ℕ) → value v ≡ value v) × U) true h (goes ReservesPort (record n { word_or_reason = a }))
       (worded n a (is_noted h.place)) refl)
 
   pub move_keeps : (after : Thread) (e : Effect NatValue) (hand : Option Hand) (a : Option ℕ)

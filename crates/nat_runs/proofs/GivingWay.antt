@@ -1,6 +1,6 @@
 -- Idle mappings give way.
-use Rattle.std.proofs.Common.{◌≡◌, ℕ, ◌+◌, ◌*◌, ◌-◌, ◌<◌, ◌≤◌, max, Bool, true, false, List, [], ◌∷◌, ◌++◌, refl}
-use Rattle.std.proofs.Common.{sym, ap, ◌∙◌, subst, ◌⊎◌, inl, inr, arith, Option, Some, None}
+use Rattle.std.proofs.Common.{◌≡◌, ℕ, ◌+◌, ◌*◌, ◌-◌, ◌<◌, ◌≤◌, max, Bool, true, false, List, [], ◌∷◌, ◌++◌, refl, sym}
+use Rattle.std.proofs.Common.{ap, ◌∙◌, subst, ◌⊎◌, inl, inr, arith, Option, Some, None}
 use Rattle.std.specs.Prelude.{cond, nat_eq, ◌&&◌, ◌==◌, if◌then◌else◌, Ok}
 use Rattle.std.proofs.lemmas.Bool.{cases_lt}
 use Rattle.std.proofs.lemmas.Bool.Decides.{nat_tests}
@@ -23,8 +23,7 @@ use Rattle.nat_tables.specs.declared.entries.Bind.{Bind}
 use Rattle.nat_tables.specs.Keys.{same_endpoint}
 use Rattle.nat_tables.specs.Forwards.{Forwards, is_idle, slot_of, first_idle, without, without_idle, refresh, refreshed}
 use Rattle.nat_tables.specs.Forwards.{found_there, found, find, bound, find_or_bind, Misses, AreMappings}
-use Rattle.nat_tables.specs.Hosts.{is_of_host, is_full, first_idle_of, given_up, found_within, find_within}
-use Rattle.nat_tables.specs.Hosts.{bind_within}
+use Rattle.nat_tables.specs.Hosts.{is_of_host, is_full, first_idle_of, given_up, found_within, find_within, bind_within}
 use Rattle.nat_tables.proofs.Counting.{same_is}
 use Rattle.flow_boxes.specs.Flows.{source_of}
 use Rattle.flow_boxes.proofs.Fitting.{same_self}
@@ -34,22 +33,24 @@ use Rattle.nat_box.specs.declared.place.Noted.{Noted}
 use Rattle.nat_box.specs.declared.value.NatValue.{NatValue}
 use Rattle.nat_box.specs.declared.value.NatValue.TheVariants.{Mapped}
 use Rattle.nat_box.specs.Places.{noted}
-use Rattle.nat_box.specs.Nat.{Settings, flow_seen, touched_by, followed_by, followed, nat_meaning, MayMap, Fits}
-use Rattle.nat_box.specs.Lawful.{AreSettings, nat_lawful}
+use Rattle.nat_box.specs.Settings.{Settings, AreSettings}
+use Rattle.nat_box.specs.Nat.{flow_seen, touched_by, followed_by, followed, nat_meaning, MayMap, Fits}
+use Rattle.nat_box.specs.Lawful.{nat_lawful}
 use Rattle.nat_box.specs.Sentences.{Has, mappings_in}
 use Rattle.nat_box.proofs.Making.{comes_to}
 use Rattle.nat_box.proofs.SeenAs.{same_flow, flow_is_seen}
 use Rattle.nat_runs.specs.Met.{Met, met_of}
-use Rattle.nat_runs.specs.Idle.{IsIdle, IsUsed}
+use Rattle.nat_runs.specs.Idle.{IsIdle, IsLive}
 use Rattle.nat_runs.specs.FullHosts.{has_drawn, HasChangedNothing}
 use Rattle.nat_runs.specs.GivingWay.{AreDated, MayGiveWay, GiveWay, IdleGiveWay}
 use Rattle.nat_runs.proofs.MarkedEntries.{followed_had}
 use Rattle.nat_runs.proofs.Within.{by_bind, full_has, idle_of_host}
-use Rattle.nat_runs.proofs.TableEntries.{idle_is, used_is, missed, slot_in, not_there, without_was, without_idle_was}
+use Rattle.nat_runs.proofs.TableEntries.{idle_is, live_is, missed, slot_in, not_there, without_was, without_idle_was}
 use Rattle.nat_runs.proofs.ThreadMoves.{TouchKind, finds, unbinds_freed, gives_freed, reserves, binds, finds_or_binds}
 use Rattle.nat_runs.proofs.ThreadMoves.{unbinds_lost, gives_lost, counts, touch_kind, at, touched_below, by_move}
 use Rattle.nat_runs.proofs.ThreadMoves.{entry_is}
-use Rattle.nat_runs.proofs.Knowing.{IsBase, IsOnWay, KnownAt, Known, run_known}
+use Rattle.nat_runs.proofs.Known.{IsBase, IsOnWay, KnownAt, Known}
+use Rattle.nat_runs.proofs.Knowing.{run_known}
 use Rattle.nat_runs.proofs.FullHosts.{FullAt, Full, run_full}
 
 -- Which mappings are idle
@@ -57,13 +58,13 @@ use Rattle.nat_runs.proofs.FullHosts.{FullAt, Full, run_full}
 idle_true : (now : ℕ) (e : Endpoint × Slot) → IsIdle now e.0 e.1 → is_idle now e ≡ true
 idle_true now e idle = by (is_idle now e) refl
   where
-    used : IsUsed now e.0 e.1 → is_idle now e ≡ true
+    used : IsLive now e.0 e.1 → is_idle now e ≡ true
     used (inl kept) = absurd (idle.0 kept)
     used (inr later) = let past = idle.1 in absurd (omega (arith, later, past))
 
     by : (b : Bool) → is_idle now e ≡ b → is_idle now e ≡ true
     by true q = q
-    by false q = used (used_is now e q)
+    by false q = used (live_is now e q)
 
 none_idle : (now : ℕ) (es : Forwards) (e : Endpoint × Slot) → first_idle now es ≡ None → Has es e
     → is_idle now e ≡ true → ⊥
@@ -241,7 +242,7 @@ module _ (May : Endpoint → Slot → Type 0) (limit : Option ℕ) (key : Endpoi
   there slot false q i = (
     λ later h. refresh_dated May key now es later all h,
     record {
-      own = λ later h. (slot, slot_in key slot es q, used_is now (key, slot) i);
+      own = λ later h. (slot, slot_in key slot es q, live_is now (key, slot) i);
       other = λ missing e h idle may. absurd (missing slot (slot_in key slot es q));
     },
   )

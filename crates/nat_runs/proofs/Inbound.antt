@@ -1,6 +1,6 @@
 -- An inbound packet changes no table and not the pool.
-use Rattle.std.proofs.Common.{◌≡◌, ℕ, ◌+◌, ◌*◌, ◌<◌, ◌≤◌, Bool, false, List, refl, sym, ap, ◌∙◌, subst}
-use Rattle.std.proofs.Common.{◌⊎◌, inl, inr, arith, Option, Some, None}
+use Rattle.std.proofs.Common.{◌≡◌, ℕ, ◌+◌, ◌*◌, ◌<◌, ◌≤◌, Bool, false, List, refl, sym, ap, ◌∙◌, subst, ◌⊎◌, inl, inr}
+use Rattle.std.proofs.Common.{arith, Option, Some, None}
 use Rattle.std.specs.Prelude.{cond, nat_eq}
 use Rattle.plain_text.specs.declared.packet.Packet.{Packet}
 use Rattle.plain_machine.specs.declared.local.Move.TheVariants.{Access}
@@ -13,16 +13,19 @@ use Rattle.nat_box.specs.declared.place.Class.TheVariants.{Inbound}
 use Rattle.nat_box.specs.declared.place.Noted.{Noted}
 use Rattle.nat_box.specs.declared.value.NatValue.{NatValue}
 use Rattle.nat_box.specs.Places.{noted}
-use Rattle.nat_box.specs.Nat.{Settings, touched_by, followed, nat_meaning, Fits}
-use Rattle.nat_box.specs.Lawful.{AreSettings, var_of, touches_it, nat_lawful}
+use Rattle.nat_box.specs.Settings.{Settings, AreSettings}
+use Rattle.nat_box.specs.Nat.{touched_by, followed, nat_meaning, Fits}
+use Rattle.nat_box.specs.Ranks.{var_of, touches_it}
+use Rattle.nat_box.specs.Lawful.{nat_lawful}
 use Rattle.nat_box.proofs.Making.{comes_to}
 use Rattle.nat_runs.specs.Met.{Met, met_of}
 use Rattle.nat_runs.specs.Inbound.{IsInbound, IsError, InboundChangesNoTable}
 use Rattle.nat_box.proofs.SeenAs.{no_error, class_is_seen}
 use Rattle.nat_runs.proofs.ThreadMoves.{TouchKind, finds, unbinds_freed, gives_freed, reserves, binds, finds_or_binds}
 use Rattle.nat_runs.proofs.ThreadMoves.{unbinds_lost, gives_lost, counts, touch_kind, at, touched_below, by_move}
-use Rattle.nat_box.proofs.Emissions.{IsOutward}
-use Rattle.nat_runs.proofs.Knowing.{outward_flow, IsOnWay, KnownAt, Known, run_known}
+use Rattle.nat_box.proofs.Translations.{IsOutward}
+use Rattle.nat_runs.proofs.Known.{outward_flow, IsOnWay, KnownAt, Known}
+use Rattle.nat_runs.proofs.Knowing.{run_known}
 
 -- an inbound packet is not on its way to a mapping of its source
 not_on_way : (s : Settings) (m : Met) (p : Packet) (n : Noted) → IsInbound s p ⊎ IsError p → IsOnWay s m p n → ⊥

@@ -2,13 +2,15 @@ pub mod TableEntries
 pub mod MarkedEntries
 pub mod Within
 pub mod ThreadMoves
+pub mod Known
+pub mod KnownTouches
 pub mod Knowing
 pub mod FullHosts
 pub mod GivingWay
 pub mod NewPorts
 pub mod Staying
 pub mod Following
-pub mod Used
+pub mod Live
 pub mod Inbound
 pub mod DropCounts
 pub mod Causes
@@ -20,5 +22,6 @@ pub mod StaticSources
 pub mod Errors
 pub mod Limits
 pub mod Phasing
+pub mod NetworkClasses
 pub mod Networks
 pub mod Quotes

@@ -13,12 +13,13 @@ use Rattle.nat_tables.specs.declared.entries.Endpoint.{Endpoint}
 use Rattle.nat_tables.specs.Forwards.{Forwards, AreMappings}
 use Rattle.nat_tables.specs.Hosts.{is_of_host, count_of}
 use Rattle.flow_boxes.proofs.Summing.{one_term}
-use Rattle.nat_box.specs.declared.nat.StaticPort.{StaticPort}
+use Rattle.nat_box.specs.declared.settings.StaticPort.{StaticPort}
 use Rattle.nat_box.specs.declared.value.NatValue.{NatValue}
 use Rattle.nat_box.specs.declared.value.NatValue.TheVariants.{Dropped, Free, Mapped, Taken}
 use Rattle.nat_box.specs.Places.{place_numbered, noted}
 use Rattle.nat_box.specs.Statics.{inside_of, kept}
-use Rattle.nat_box.specs.Nat.{Settings, table_sum, forward_table, kept_mappings, touched_by, followed, local_at}
+use Rattle.nat_box.specs.Settings.{Settings}
+use Rattle.nat_box.specs.Nat.{table_sum, forward_table, kept_mappings, touched_by, followed, local_at}
 use Rattle.nat_box.specs.Nat.{nat_meaning, MayMap, AreWithin, Fits}
 use Rattle.nat_box.specs.Lawful.{nat_lawful}
 use Rattle.nat_box.specs.Sentences.{mappings_in}

@@ -1,6 +1,6 @@
 -- A new mapping has the parity of its inside port while a port of this parity is free.
-use Rattle.std.proofs.Common.{◌≡◌, ◌≢◌, ℕ, ◌+◌, ◌*◌, ◌%◌, ◌<◌, ◌≤◌, Bool, true, false, List, [], ◌∷◌, ◌++◌, refl}
-use Rattle.std.proofs.Common.{sym, ap, ◌∙◌, subst, ◌⊎◌, inl, inr, arith, Option, Some, None}
+use Rattle.std.proofs.Common.{◌≡◌, ◌≢◌, ℕ, ◌+◌, ◌*◌, ◌%◌, ◌<◌, ◌≤◌, Bool, true, false, List, [], ◌∷◌, ◌++◌, refl, sym}
+use Rattle.std.proofs.Common.{ap, ◌∙◌, subst, ◌⊎◌, inl, inr, arith, Option, Some, None}
 use Rattle.std.specs.Prelude.{cond, nat_eq, ◌==◌, if◌then◌else◌, Result, Ok, Err}
 use Rattle.plain_text.specs.declared.packet.Packet.{Packet}
 use Rattle.entry_order.proofs.Order.{is_or}
@@ -20,14 +20,12 @@ use Rattle.nat_tables.specs.declared.entries.Bind.TheVariants.{Bound, Other}
 use Rattle.nat_tables.specs.Keys.{same_endpoint, port_key}
 use Rattle.nat_tables.specs.Ports.{PoolPorts, reserve, free_of, ArePorts}
 use Rattle.nat_tables.specs.Forwards.{Forwards, is_idle, slot_of, first_idle, refresh, refreshed, found_there, found}
-use Rattle.nat_tables.specs.Forwards.{find}
-use Rattle.nat_tables.specs.Forwards.{bound, find_or_bind, lives}
+use Rattle.nat_tables.specs.Forwards.{find, bound, find_or_bind, lives}
 use Rattle.nat_tables.specs.Hosts.{is_full, find_within, bind_within}
 use Rattle.nat_tables.specs.Reverses.{endpoint_of}
 use Rattle.nat_tables.proofs.Parity.{keeps_parity}
 use Rattle.nat_box.specs.declared.place.Place.{Place}
-use Rattle.nat_box.specs.declared.place.Place.TheVariants.{HearsTime}
-use Rattle.nat_box.specs.declared.place.Place.TheVariants.{DrawsWord, ReservesPort, BindsPort, FindsOrBinds}
+use Rattle.nat_box.specs.declared.place.Place.TheVariants.{HearsTime, DrawsWord, ReservesPort, BindsPort, FindsOrBinds}
 use Rattle.nat_box.specs.declared.place.Place.TheVariants.{Ends}
 use Rattle.nat_box.specs.declared.place.Class.{Class}
 use Rattle.nat_box.specs.declared.place.Class.TheVariants.{Outbound, Hairpin, Inbound, OutboundError}
@@ -35,14 +33,15 @@ use Rattle.nat_box.specs.declared.place.Noted.{Noted}
 use Rattle.nat_box.specs.declared.place.Goes.{Goes}
 use Rattle.nat_box.specs.declared.value.NatValue.{NatValue}
 use Rattle.nat_box.specs.declared.value.NatValue.TheVariants.{Free, Mapped}
-use Rattle.nat_box.specs.Places.{place_numbered, noted, dest_key}
-use Rattle.nat_box.specs.Nat.{Settings, goes, dropped, over_limit, class_seen, flow_seen, begun_by, mapped, after_find}
+use Rattle.nat_box.specs.Places.{place_numbered, noted, dest_key, drawn_word, is_refused}
+use Rattle.nat_box.specs.Settings.{Settings, AreSettings}
+use Rattle.nat_box.specs.Nat.{goes, dropped, over_limit, class_seen, flow_seen, begun_by, mapped, after_find}
 use Rattle.nat_box.specs.Nat.{after_reserve, after_bind, after_find_within, after_bind_within, after_lost, touched_by}
-use Rattle.nat_box.specs.Nat.{followed_by, followed, after_endpoint, looked_by, used_port, after_port, looked}
-use Rattle.nat_box.specs.Nat.{after_time}
-use Rattle.nat_box.specs.Nat.{told, local_at, begun, seen_by, nat_meaning, Fits}
+use Rattle.nat_box.specs.Nat.{followed_by, followed, after_endpoint, looked_by, live_port, after_port, looked}
+use Rattle.nat_box.specs.Nat.{after_time, told, local_at, begun, seen_by, nat_meaning, Fits}
 use Rattle.nat_box.specs.Noting.{place_again, IsNoted, is_noted, noted_again}
-use Rattle.nat_box.specs.Lawful.{AreSettings, var_of, touches_it, nat_lawful}
+use Rattle.nat_box.specs.Ranks.{var_of, touches_it}
+use Rattle.nat_box.specs.Lawful.{nat_lawful}
 use Rattle.nat_box.specs.PortStanding.{free_at}
 use Rattle.nat_box.specs.Sentences.{Has, mappings_in}
 use Rattle.nat_box.proofs.Noting.{touched_noted}
@@ -57,7 +56,7 @@ use Rattle.nat_runs.proofs.ThreadMoves.{TouchKind, finds, unbinds_freed, gives_f
 use Rattle.nat_runs.proofs.ThreadMoves.{unbinds_lost, gives_lost, counts, LookKind, finds_endpoint, asks, finds_port}
 use Rattle.nat_runs.proofs.ThreadMoves.{touch_kind, look_kind, at_clock, at_draw, at, touched_below, read_below}
 use Rattle.nat_runs.proofs.ThreadMoves.{by_move}
-use Rattle.nat_runs.proofs.Knowing.{free_elsewhere, timed, time_noted, looked_noted}
+use Rattle.nat_runs.proofs.Known.{free_elsewhere, timed, time_noted, looked_noted}
 
 -- What is so of the port in hand
 
@@ -128,7 +127,7 @@ module _ (s : Settings) (m : Met) where
       by : (b : Bool) → PortAt s m (looked_by n b).place (looked_by n b).noted
       by true = tt
       by false = tt
-  looked_port _ _ n (finds_port es) = by (used_port n.source n.time es)
+  looked_port _ _ n (finds_port es) = by (live_port n.source n.time es)
     where
       by : (o : Option ℕ) → PortAt s m (after_port n o).place (after_port n o).noted
       by (Some port) = tt
@@ -143,7 +142,7 @@ module _ (s : Settings) (m : Met) where
 module _ (s : Settings) (value : ℕ → NatValue) (fits : (v : ℕ) → v < 2 + 2 * s.shards → Fits s v (value v)) where
   -- the port that was reserved
   reserved_port : (m : Met) (n : Noted) (pool : PoolPorts) (w : ℕ) (o : Option ℕ) → value w ≡ Free pool
-      → w < 2 + 2 * s.shards → 1 ≡ w → (reserve n.source.protocol n.source.port n.word pool).0 ≡ o
+      → w < 2 + 2 * s.shards → 1 ≡ w → (reserve n.source.protocol n.source.port (drawn_word n) pool).0 ≡ o
       → PortAt s (record m { at_pool = Some value }) (after_reserve n o).place (after_reserve n o).noted
   reserved_port m n pool w None is low at e = tt
   reserved_port m n pool w (Some port) is low at e = (value, refl, same)
@@ -160,7 +159,7 @@ module _ (s : Settings) (value : ℕ → NatValue) (fits : (v : ℕ) → v < 2 +
               let pool_is : value v ≡ Free pool = ap value (q ∙ at) ∙ is in
               let there : 1 ≤ free_of n.source.protocol free pool =
               subst (λ (y : NatValue). 1 ≤ free_at (port_key n.source.protocol free) y) pool_is some in
-              keeps_parity n.source.protocol n.source.port n.word port free pool ports e there parity
+              keeps_parity n.source.protocol n.source.port (drawn_word n) port free pool ports e there parity
           by (inr q) =
               let none = free_elsewhere s v (value v) (port_key n.source.protocol free) (fits v below) q in
               absurd (omega (arith, none, some))
@@ -178,9 +177,9 @@ module _ (s : Settings) (value : ℕ → NatValue) (fits : (v : ℕ) → v < 2 +
   touch_port m w _ _ n None left is (gives_freed pool) low at k = tt
   touch_port m w _ _ n (Some most) left is (gives_freed pool) low at k = tt
   touch_port m w _ _ n None left is (reserves pool) low at k =
-      reserved_port m n pool w (reserve n.source.protocol n.source.port n.word pool).0 is low at refl
+      reserved_port m n pool w (reserve n.source.protocol n.source.port (drawn_word n) pool).0 is low at refl
   touch_port m w _ _ n (Some most) left is (reserves pool) low at k =
-      reserved_port m n pool w (reserve n.source.protocol n.source.port n.word pool).0 is low at refl
+      reserved_port m n pool w (reserve n.source.protocol n.source.port (drawn_word n) pool).0 is low at refl
   touch_port m w _ _ n None left is (binds bs) low at k = k
   touch_port m w _ _ n (Some most) left is (binds bs) low at k = k
   touch_port m w _ _ n None left is (finds_or_binds es) low at k =
@@ -192,7 +191,7 @@ module _ (s : Settings) (value : ℕ → NatValue) (fits : (v : ℕ) → v < 2 +
   touch_port m w _ _ n None left is (gives_lost pool) low at k =
       mapped_port s (met_by_touch value (Free pool) left m) n n.class
   touch_port m w _ _ n (Some most) left is (gives_lost pool) low at k =
-      lost_port s (met_by_touch value (Free pool) left m) n (n.port == 0)
+      lost_port s (met_by_touch value (Free pool) left m) n (is_refused n)
   touch_port m w _ _ n None left is (counts d) low at k = tt
   touch_port m w _ _ n (Some most) left is (counts d) low at k = tt
 
@@ -333,7 +332,7 @@ module _ (s : Settings) (is : AreSettings s) (packets : List Packet) (value : �
   told_word h a place q =
       let n : Noted = noted h.place in
       subst (λ (z : Place). Held s m (goes_on h (told z a n))) (sym q)
-      (held_on s m h (goes ReservesPort (record n { word = a })) (worded n a (is_noted h.place)) tt)
+      (held_on s m h (goes ReservesPort (record n { word_or_reason = a })) (worded n a (is_noted h.place)) tt)
 
   pub move_holds : (after : Thread) (d : Effect NatValue) (hand : Option Hand) (a : Option ℕ)
       → held_move (nat_meaning s) packets value taken a hand ≡ Moves after d → Keeps hand after.hand d

@@ -31,30 +31,30 @@ use Rattle.nat_box.specs.declared.place.Noted.{Noted}
 use Rattle.flow_boxes.specs.declared.drops.Drops.{Drops}
 use Rattle.nat_box.specs.declared.value.NatValue.{NatValue}
 use Rattle.nat_box.specs.declared.value.NatValue.TheVariants.{Dropped, Free, Mapped, Taken}
-use Rattle.nat_box.specs.Places.{noted, dest_key}
+use Rattle.nat_box.specs.Places.{noted, dest_key, drawn_word, drop_reason, is_refused}
 use Rattle.nat_box.specs.declared.place.Goes.{Goes}
 use Rattle.nat_box.specs.declared.seeing.Seen.{Seen}
 use Rattle.flow_boxes.specs.Drops.{with_drop}
-use Rattle.nat_box.specs.Nat.{Settings, goes, seen_by, flow_in, class_in, begun_by, begun, mapped, after_find}
-use Rattle.nat_box.specs.Nat.{after_reserve}
-use Rattle.nat_box.specs.Nat.{after_bind, used_port, after_port}
-use Rattle.nat_box.specs.Nat.{dropped, over_limit, after_find_within, after_bind_within, after_lost, touched_by}
-use Rattle.nat_box.specs.Nat.{followed, after_endpoint, looked_by, looked, after_time, told, nat_meaning}
-use Rattle.nat_box.specs.Nat.{Fits}
+use Rattle.nat_box.specs.Settings.{Settings, AreSettings}
+use Rattle.nat_box.specs.Nat.{goes, seen_by, flow_in, class_in, begun_by, begun, mapped, after_find, after_reserve}
+use Rattle.nat_box.specs.Nat.{after_bind, live_port, after_port, dropped, over_limit, after_find_within}
+use Rattle.nat_box.specs.Nat.{after_bind_within, after_lost, touched_by, followed, after_endpoint, looked_by, looked}
+use Rattle.nat_box.specs.Nat.{after_time, told, nat_meaning, Fits}
 use Rattle.nat_box.specs.Noting.{place_again}
-use Rattle.nat_box.specs.Lawful.{AreSettings, var_of, touches_it, nat_lawful}
+use Rattle.nat_box.specs.Ranks.{var_of, touches_it}
+use Rattle.nat_box.specs.Lawful.{nat_lawful}
 use Rattle.flow_boxes.proofs.Summing.{one_changes, sum_of_none, term_of_sum}
 use Rattle.nat_box.proofs.Making.{comes_to, goes_on}
 use Rattle.nat_runs.specs.Met.{Met, met_of}
-use Rattle.nat_runs.specs.Passing.{taken_by, taken_in, drops_in, waits_at, waits, waiting, counted_by}
-use Rattle.nat_runs.specs.Passing.{HasPassed, EachPasses, NoneVanishes, NoneVanishesAtRest}
+use Rattle.nat_runs.specs.Passing.{taken_by, taken_in, drops_in, waits_at, waits, waiting, counted_by, HasPassed}
+use Rattle.nat_runs.specs.Passing.{EachPasses, NoneVanishes, NoneVanishesAtRest}
 use Rattle.nat_runs.proofs.DropCounts.{drop_is, one_more_long, one_more_sum}
 use Rattle.nat_runs.proofs.ThreadMoves.{TouchKind, finds, unbinds_freed, gives_freed, reserves, binds, finds_or_binds}
 use Rattle.nat_runs.proofs.ThreadMoves.{unbinds_lost, gives_lost, counts, LookKind, finds_endpoint, asks, finds_port}
-use Rattle.nat_runs.proofs.ThreadMoves.{touch_kind}
-use Rattle.nat_runs.proofs.ThreadMoves.{look_kind, at_clock, at_draw, at_emit, at_end, at, touched_below, read_below}
-use Rattle.nat_runs.proofs.ThreadMoves.{begins_with, by_thread_move, by_move}
-use Rattle.nat_runs.proofs.Knowing.{KnownAt, Known, run_known}
+use Rattle.nat_runs.proofs.ThreadMoves.{touch_kind, look_kind, at_clock, at_draw, at_emit, at_end, at, touched_below}
+use Rattle.nat_runs.proofs.ThreadMoves.{read_below, begins_with, by_thread_move, by_move}
+use Rattle.nat_runs.proofs.Known.{KnownAt, Known}
+use Rattle.nat_runs.proofs.Knowing.{run_known}
 
 -- Who waits
 
@@ -117,9 +117,9 @@ touch_waits s _ _ n (Some most) (unbinds_freed bs) other = (refl, refl)
 touch_waits s _ _ n None (gives_freed pool) other = (refl, refl)
 touch_waits s _ _ n (Some most) (gives_freed pool) other = (refl, refl)
 touch_waits s _ _ n None (reserves pool) other =
-    (refl, reserved_waits n (reserve n.source.protocol n.source.port n.word pool).0)
+    (refl, reserved_waits n (reserve n.source.protocol n.source.port (drawn_word n) pool).0)
 touch_waits s _ _ n (Some most) (reserves pool) other =
-    (refl, reserved_waits n (reserve n.source.protocol n.source.port n.word pool).0)
+    (refl, reserved_waits n (reserve n.source.protocol n.source.port (drawn_word n) pool).0)
 touch_waits s _ _ n None (binds bs) other = (refl, refl)
 touch_waits s _ _ n (Some most) (binds bs) other = (refl, refl)
 touch_waits s _ _ n None (finds_or_binds es) other = (refl, bound_waits n (find_or_bind n.source n.port n.time es).0)
@@ -128,7 +128,7 @@ touch_waits s _ _ n (Some most) (finds_or_binds es) other =
 touch_waits s _ _ n None (unbinds_lost bs) other = (refl, refl)
 touch_waits s _ _ n (Some most) (unbinds_lost bs) other = (refl, refl)
 touch_waits s _ _ n None (gives_lost pool) other = (refl, mapped_waits n n.class)
-touch_waits s _ _ n (Some most) (gives_lost pool) other = (refl, lost_waits n (n.port == 0))
+touch_waits s _ _ n (Some most) (gives_lost pool) other = (refl, lost_waits n (is_refused n))
 touch_waits s _ _ n limit (counts d) other = absurd (other refl)
 
 look_waits : (place : Place) (x : NatValue) (n : Noted) → LookKind place x
@@ -143,7 +143,7 @@ look_waits _ _ n (asks es) = (refl, by (lives n.target n.dest_port n.time es))
     by : (b : Bool) → waits_at (looked_by n b).place ≡ 1
     by true = refl
     by false = refl
-look_waits _ _ n (finds_port es) = (refl, by (used_port n.source n.time es))
+look_waits _ _ n (finds_port es) = (refl, by (live_port n.source n.time es))
   where
     by : (o : Option ℕ) → waits_at (after_port n o).place ≡ 1
     by (Some port) = refl
@@ -219,8 +219,8 @@ module _ (s : Settings) (is : AreSettings s) (packets : List Packet) (value : �
   at_count h _ _ limit (finds_or_binds es) e long k = absurd long
   at_count h _ _ limit (unbinds_lost bs) e long k = absurd long
   at_count h _ _ limit (gives_lost pool) e long k = absurd long
-  at_count h _ _ None (counts d) e long k = counted_sum (noted h.place).word d long k.0 k.1
-  at_count h _ _ (Some most) (counts d) e long k = counted_sum (noted h.place).word d long k.0 k.1
+  at_count h _ _ None (counts d) e long k = counted_sum (drop_reason (noted h.place)) d long k.0 k.1
+  at_count h _ _ (Some most) (counts d) e long k = counted_sum (drop_reason (noted h.place)) d long k.0 k.1
 
   at_touch : (h : Hand) (w : ℕ) → comes_to s h (Access w) → Known s m (Some h)
       → (let r = touched_by s.limit (at h) (value w) (noted h.place) in

@@ -1,7 +1,6 @@
 -- The phase of a mapping after a step is the one that it had, or the one after the packet in hand.
 use Rattle.std.proofs.Common.{◌≡◌, ◌≢◌, ℕ, ◌+◌, ◌-◌, ◌*◌, ◌<◌, Bool, true, false, List, [], ◌∷◌, ◌++◌, refl, sym, ap}
-use Rattle.std.proofs.Common.{◌∙◌}
-use Rattle.std.proofs.Common.{subst, ◌⊎◌, inl, inr, arith, ◌≤◌, ◌/◌, ◌%◌, ◌^◌, Option, Some, None}
+use Rattle.std.proofs.Common.{◌∙◌, subst, ◌⊎◌, inl, inr, arith, ◌≤◌, ◌/◌, ◌%◌, ◌^◌, Option, Some, None}
 use Rattle.std.specs.Prelude.{cond, nat_eq, ◌==◌, if◌then◌else◌, bit_and}
 use Rattle.std.specs.Int.Bits.{and_zero_r}
 use Rattle.std.proofs.lemmas.Nat.{and_block}
@@ -18,8 +17,8 @@ use Rattle.plain_machine.proofs.Bounds.{values_fit}
 use Rattle.nat_tables.specs.declared.entries.Endpoint.{Endpoint}
 use Rattle.nat_tables.specs.declared.slot.Slot.{Slot}
 use Rattle.nat_tables.specs.declared.phase.Phase.{Phase}
-use Rattle.nat_tables.specs.declared.phase.Phase.TheVariants.{Plain, Opening, Established, Closing}
-use Rattle.nat_tables.specs.declared.phase.Phase.TheVariants.{EndedByClient, EndedByServer, Kept}
+use Rattle.nat_tables.specs.declared.phase.Phase.TheVariants.{Plain, Opening, Established, Closing, EndedByClient}
+use Rattle.nat_tables.specs.declared.phase.Phase.TheVariants.{EndedByServer, Kept}
 use Rattle.nat_tables.specs.declared.phase.Segment.{Segment}
 use Rattle.nat_tables.specs.declared.phase.Segment.TheVariants.{Silent, Opens, Carries, Closes}
 use Rattle.nat_tables.specs.Keys.{same_endpoint}
@@ -37,10 +36,9 @@ use Rattle.nat_box.specs.declared.place.Noted.{Noted}
 use Rattle.nat_box.specs.declared.value.NatValue.{NatValue}
 use Rattle.nat_box.specs.declared.value.NatValue.TheVariants.{Mapped}
 use Rattle.nat_box.specs.Places.{noted}
-use Rattle.nat_box.specs.Nat.{Settings, segment_of, segment_told, touched_by, followed_by, followed, nat_meaning}
-use Rattle.nat_box.specs.Nat.{MayMap}
-use Rattle.nat_box.specs.Nat.{Fits}
-use Rattle.nat_box.specs.Lawful.{AreSettings, nat_lawful}
+use Rattle.nat_box.specs.Settings.{Settings, AreSettings}
+use Rattle.nat_box.specs.Nat.{segment_of, segment_told, touched_by, followed_by, followed, nat_meaning, MayMap, Fits}
+use Rattle.nat_box.specs.Lawful.{nat_lawful}
 use Rattle.nat_box.specs.Sentences.{Has, mappings_in}
 use Rattle.nat_box.proofs.Making.{comes_to}
 use Rattle.nat_runs.specs.Met.{Met, met_of}
@@ -50,7 +48,8 @@ use Rattle.nat_runs.proofs.Within.{by_find, by_bind}
 use Rattle.nat_runs.proofs.TableEntries.{missed, not_there, without_was, without_idle_was}
 use Rattle.nat_runs.proofs.ThreadMoves.{TouchKind, finds, unbinds_freed, gives_freed, reserves, binds, finds_or_binds}
 use Rattle.nat_runs.proofs.ThreadMoves.{unbinds_lost, gives_lost, counts, touch_kind, at, touched_below, by_move}
-use Rattle.nat_runs.proofs.Knowing.{outward_flow, IsOnWay, KnownAt, Known, run_known}
+use Rattle.nat_runs.proofs.Known.{outward_flow, IsOnWay, KnownAt, Known}
+use Rattle.nat_runs.proofs.Knowing.{run_known}
 
 -- Before the segment is noted: an entry was there, or it is of the packet's endpoint and has the phase of its mapping.
 

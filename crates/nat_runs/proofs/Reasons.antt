@@ -1,6 +1,6 @@
 -- The reason of a drop stands in its register when the packet comes to its end.
-use Rattle.std.proofs.Common.{◌≡◌, ℕ, ◌+◌, ◌*◌, ◌<◌, Bool, List, refl, sym, ap, ◌∙◌, subst, ◌∷◌}
-use Rattle.std.proofs.Common.{true, arith, Option, Some, None}
+use Rattle.std.proofs.Common.{◌≡◌, ℕ, ◌+◌, ◌*◌, ◌<◌, Bool, List, refl, sym, ap, ◌∙◌, subst, ◌∷◌, true, arith, Option}
+use Rattle.std.proofs.Common.{Some, None}
 use Rattle.std.specs.Prelude.{cond, nat_eq}
 use Rattle.plain_text.specs.declared.packet.Packet.{Packet}
 use Rattle.entry_order.specs.Log.{Entry, places}
@@ -20,9 +20,11 @@ use Rattle.nat_box.specs.declared.place.Goes.{Goes}
 use Rattle.flow_boxes.specs.declared.drops.Drops.{Drops}
 use Rattle.nat_box.specs.declared.value.NatValue.{NatValue}
 use Rattle.nat_box.specs.declared.value.NatValue.TheVariants.{Dropped}
-use Rattle.nat_box.specs.Places.{noted}
-use Rattle.nat_box.specs.Nat.{Settings, goes, local_at, touched_by, followed, nat_meaning, Fits}
-use Rattle.nat_box.specs.Lawful.{AreSettings, var_of, touches_it, nat_lawful}
+use Rattle.nat_box.specs.Places.{noted, drop_reason}
+use Rattle.nat_box.specs.Settings.{Settings, AreSettings}
+use Rattle.nat_box.specs.Nat.{goes, local_at, touched_by, followed, nat_meaning, Fits}
+use Rattle.nat_box.specs.Ranks.{var_of, touches_it}
+use Rattle.nat_box.specs.Lawful.{nat_lawful}
 use Rattle.nat_box.proofs.Making.{comes_to, goes_on}
 use Rattle.nat_runs.specs.Met.{Met, met_of}
 use Rattle.nat_runs.specs.Causes.{one_more}
@@ -31,11 +33,12 @@ use Rattle.nat_runs.proofs.DropCounts.{drop_is}
 use Rattle.nat_runs.proofs.ThreadMoves.{TouchKind, finds, unbinds_freed, gives_freed, reserves, binds, finds_or_binds}
 use Rattle.nat_runs.proofs.ThreadMoves.{unbinds_lost, gives_lost, counts, touch_kind, at, touched_below, by_move}
 use Rattle.nat_runs.proofs.ThreadMoves.{entry_is}
-use Rattle.nat_runs.proofs.Knowing.{KnownAt, Known, run_known}
+use Rattle.nat_runs.proofs.Known.{KnownAt, Known}
+use Rattle.nat_runs.proofs.Knowing.{run_known}
 
 -- what a count leaves, and where its packet goes
 abbrev Counted : Noted → NatValue → NatValue → Goes → Type 0
-Counted n x left g = (d : Drops) × (x ≡ Dropped d) × (left ≡ Dropped (one_more n.word d)) × (g ≡ goes Ends n)
+Counted n x left g = (d : Drops) × (x ≡ Dropped d) × (left ≡ Dropped (one_more (drop_reason n) d)) × (g ≡ goes Ends n)
 
 counted : (s : Settings) (m : Met) (p : Packet) (place : Place) (x : NatValue) (n : Noted) (limit : Option ℕ)
     → TouchKind place x → var_of s place n ≡ 0 → KnownAt s m p place n
@@ -48,8 +51,8 @@ counted s m p _ _ n limit (binds bs) e k = absurd (omega arith)
 counted s m p _ _ n limit (finds_or_binds es) e k = absurd (omega arith)
 counted s m p _ _ n limit (unbinds_lost bs) e k = absurd (omega arith)
 counted s m p _ _ n limit (gives_lost pool) e k = absurd (omega arith)
-counted s m p _ _ n None (counts d) e k = (d, refl, ap Dropped (drop_is n.word d k.0 k.1), refl)
-counted s m p _ _ n (Some most) (counts d) e k = (d, refl, ap Dropped (drop_is n.word d k.0 k.1), refl)
+counted s m p _ _ n None (counts d) e k = (d, refl, ap Dropped (drop_is (drop_reason n) d k.0 k.1), refl)
+counted s m p _ _ n (Some most) (counts d) e k = (d, refl, ap Dropped (drop_is (drop_reason n) d k.0 k.1), refl)
 
 -- the hand after it
 abbrev Stands : Settings → NatValue → NatValue → Option Hand → Type 0

@@ -1,6 +1,6 @@
 -- Packets from inside refresh the mapping of their own endpoint.
-use Rattle.std.proofs.Common.{◌≡◌, ◌≢◌, ℕ, ◌+◌, ◌*◌, ◌-◌, ◌<◌, Bool, true, false, List, refl, sym, ap, ◌∙◌}
-use Rattle.std.proofs.Common.{subst, ◌⊎◌, inl, inr, Option, Some, None}
+use Rattle.std.proofs.Common.{◌≡◌, ◌≢◌, ℕ, ◌+◌, ◌*◌, ◌-◌, ◌<◌, Bool, true, false, List, refl, sym, ap, ◌∙◌, subst, ◌⊎◌}
+use Rattle.std.proofs.Common.{inl, inr, Option, Some, None}
 use Rattle.std.specs.Prelude.{cond, nat_eq}
 use Rattle.plain_text.specs.declared.packet.Packet.{Packet}
 use Rattle.entry_order.proofs.Order.{is_or}
@@ -25,8 +25,9 @@ use Rattle.nat_box.specs.declared.place.Noted.{Noted}
 use Rattle.nat_box.specs.declared.value.NatValue.{NatValue}
 use Rattle.nat_box.specs.declared.value.NatValue.TheVariants.{Mapped}
 use Rattle.nat_box.specs.Places.{noted}
-use Rattle.nat_box.specs.Nat.{Settings, class_of_flow, flow_seen, touched_by, followed, nat_meaning, Fits}
-use Rattle.nat_box.specs.Lawful.{AreSettings, nat_lawful}
+use Rattle.nat_box.specs.Settings.{Settings, AreSettings}
+use Rattle.nat_box.specs.Nat.{class_of_flow, flow_seen, touched_by, followed, nat_meaning, Fits}
+use Rattle.nat_box.specs.Lawful.{nat_lawful}
 use Rattle.nat_box.specs.Sentences.{Has, mappings_in}
 use Rattle.flow_boxes.specs.Flows.{source_of}
 use Rattle.flow_boxes.proofs.HeldInputs.{IsHeld, run_holds}
@@ -39,9 +40,10 @@ use Rattle.nat_runs.proofs.TableEntries.{slot_in, WasOr, refresh_was, bound_was,
 use Rattle.nat_runs.proofs.ThreadMoves.{TouchKind, finds, unbinds_freed, gives_freed, reserves, binds, finds_or_binds}
 use Rattle.nat_runs.proofs.ThreadMoves.{unbinds_lost, gives_lost, counts, touch_kind, at_emit, at, touched_below}
 use Rattle.nat_runs.proofs.ThreadMoves.{by_move}
-use Rattle.nat_box.proofs.Emissions.{IfOutward}
+use Rattle.nat_box.proofs.Translations.{IfOutward}
 use Rattle.nat_box.proofs.SeenAs.{same_flow, flow_is_seen, class_is_seen}
-use Rattle.nat_runs.proofs.Knowing.{outward_flow, from_inside, IsBase, Refreshed, IsOnWay, KnownAt, Known, run_known}
+use Rattle.nat_runs.proofs.Known.{outward_flow, from_inside, IsBase, Refreshed, IsOnWay, KnownAt, Known}
+use Rattle.nat_runs.proofs.Knowing.{run_known}
 
 -- What a touch leaves
 

@@ -27,22 +27,23 @@ use Rattle.nat_tables.specs.Reverses.{Reverses, endpoint_of, IsUnbound as IsFree
 use Rattle.nat_tables.proofs.Pooling.{pool_with_all}
 use Rattle.flow_boxes.specs.Flows.{endpoint}
 use Rattle.flow_boxes.specs.Drops.{no_drops}
-use Rattle.nat_box.specs.declared.nat.StaticPort.{StaticPort}
+use Rattle.nat_box.specs.declared.settings.StaticPort.{StaticPort}
 use Rattle.nat_box.specs.declared.place.Class.TheVariants.{Outbound, Hairpin, Inbound, OutboundError}
 use Rattle.nat_box.specs.declared.value.NatValue.{NatValue}
 use Rattle.nat_box.specs.declared.value.NatValue.TheVariants.{Dropped, Free, Mapped, Taken}
 use Rattle.nat_box.specs.Places.{noted}
 use Rattle.nat_box.specs.Statics.{inside_of, outside_of, static_port, kept, outside_ports, IsStatic}
 use Rattle.nat_box.specs.StaticLaws.{fresh_bound}
-use Rattle.nat_box.specs.Nat.{Settings, flow_seen, forward_table, reverse_table, kept_mappings, kept_bound}
+use Rattle.nat_box.specs.Settings.{Settings, AreSettings}
+use Rattle.nat_box.specs.Nat.{flow_seen, forward_table, reverse_table, kept_mappings, kept_bound}
 use Rattle.nat_box.specs.Nat.{fresh_value, touched_by, followed, nat_meaning, MayMap, MayBind, Fits}
-use Rattle.nat_box.specs.Lawful.{AreSettings, nat_lawful}
+use Rattle.nat_box.specs.Lawful.{nat_lawful}
 use Rattle.nat_box.specs.Sentences.{Has, mappings_in, bound_in, IsMapping}
 use Rattle.nat_box.proofs.Making.{comes_to}
 use Rattle.nat_box.proofs.Sentences.{entries_stand}
 use Rattle.nat_box.proofs.StaticPlaces.{table_below, kept_there, same_port_is}
 use Rattle.nat_runs.specs.Met.{Met, met_by_touch, met_by_read, met_by_what, met_by, met_of}
-use Rattle.nat_runs.specs.Causes.{IsUnbound, FoundNoneUsed, Cause}
+use Rattle.nat_runs.specs.Causes.{IsUnbound, FoundNoneLive, Cause}
 use Rattle.nat_runs.specs.StaticPorts.{StaticPortsStay, ComesInTo, NoneIsDropped, OnlyTheyAreKept}
 use Rattle.nat_runs.specs.StaticPorts.{MovesAreTheSame, empty_value, NoneStartsWithoutThem}
 use Rattle.nat_runs.proofs.TableEntries.{slot_in, endpoint_in, may_mapping, may_endpoint}
@@ -280,7 +281,7 @@ module _ (s : Settings) (threads : ℕ) (inputs : ℕ → List Packet) (p : Stat
       bound_once (MayBind s r) (bound_in (old r)) (outside_of p) key (inside_of p) (bound_fit s r (old r) (fits r low))
       has_here named
 
-  -- and its mapping is there, and is not idle
+  -- and its mapping is there, and is live
   module _ (value : ℕ → NatValue) (old : WereThere s threads inputs value) where
     it_is_bound : IsUnbound s value (outside_of p) → ⊥
     it_is_bound unbound =
@@ -322,9 +323,9 @@ module _ (s : Settings) (threads : ℕ) (inputs : ℕ → List Packet) (p : Stat
   its_port flow seen =
       ap (λ (f : Flow). port_key f.protocol f.dest_port) (seen_twice s packet to.0 flow to.1 seen) ∙ to.3
 
-  none_used : (flow : Flow) (bound : ℕ → NatValue) → flow_seen s packet ≡ Ok flow
-      → m.at_reverse ≡ Some bound → FoundNoneUsed s flow m bound → ⊥
-  none_used flow bound seen read (v, key, has, value, now, at, clock, none) =
+  none_live : (flow : Flow) (bound : ℕ → NatValue) → flow_seen s packet ≡ Ok flow
+      → m.at_reverse ≡ Some bound → FoundNoneLive s flow m bound → ⊥
+  none_live flow bound seen read (v, key, has, value, now, at, clock, none) =
       let port = its_port flow seen in
       let own : key ≡ inside_of p =
       bound_to s threads inputs p is static bound (old.reverse bound read) v key
@@ -352,7 +353,7 @@ module _ (s : Settings) (threads : ℕ) (inputs : ℕ → List Packet) (p : Stat
       it_is_bound s threads inputs p is static bound (old.reverse bound read)
       (subst (IsUnbound s bound) (its_port flow seen) unbound)
   no_cause reason (inr (inr (inr (inl (flow, seen, goes, bound, read, inr none, why))))) =
-      none_used flow bound seen read none
+      none_live flow bound seen read none
   no_cause reason (inr (inr (inr (inr (inl (flow, seen, class, value, now, read, clock, none, why)))))) =
       let both : Some Inbound ≡ Some OutboundError = sym to.2 ∙ class in absurd (cc)
   no_cause reason (inr (inr (inr (inr (inr (flow, seen, inl class, most, limit, es, left, none, many, why)))))) =

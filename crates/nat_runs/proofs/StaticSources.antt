@@ -1,6 +1,6 @@
 -- Outbound packets from the inside endpoints of static ports, and what the tables have at the start.
-use Rattle.std.proofs.Common.{◌≡◌, ℕ, ◌+◌, ◌*◌, ◌-◌, ◌<◌, Bool, true, false, List, [], ◌∷◌, refl, sym, ap, ◌∙◌}
-use Rattle.std.proofs.Common.{subst, arith, ◌⊎◌, inl, inr, Option, Some, None}
+use Rattle.std.proofs.Common.{◌≡◌, ℕ, ◌+◌, ◌*◌, ◌-◌, ◌<◌, Bool, true, false, List, [], ◌∷◌, refl, sym, ap, ◌∙◌, subst}
+use Rattle.std.proofs.Common.{arith, ◌⊎◌, inl, inr, Option, Some, None}
 use Rattle.std.specs.Prelude.{◌&&◌, ◌==◌, not, nat_lt, if◌then◌else◌, Result, Ok}
 use Rattle.entry_order.proofs.Order.{is_or}
 use Rattle.plain_text.specs.declared.packet.Packet.{Packet}
@@ -31,7 +31,7 @@ use Rattle.nat_tables.specs.Hosts.{found_within, find_within}
 use Rattle.flow_boxes.specs.Drops.{no_drops}
 use Rattle.flow_boxes.specs.Flows.{source_of}
 use Rattle.flow_boxes.proofs.HeldInputs.{IsHeld, run_holds}
-use Rattle.nat_box.specs.declared.nat.StaticPort.{StaticPort}
+use Rattle.nat_box.specs.declared.settings.StaticPort.{StaticPort}
 use Rattle.nat_box.specs.declared.place.Place.{Place}
 use Rattle.nat_box.specs.declared.place.Place.TheVariants.{HearsTime, FindsMapping, UnbindsFreed, GivesBackFreed}
 use Rattle.nat_box.specs.declared.place.Place.TheVariants.{DrawsWord, ReservesPort, BindsPort, FindsOrBinds}
@@ -46,12 +46,12 @@ use Rattle.nat_box.specs.declared.value.NatValue.TheVariants.{Dropped, Free, Map
 use Rattle.nat_box.specs.Places.{place_numbered, noted}
 use Rattle.nat_box.specs.Noting.{place_again}
 use Rattle.nat_box.specs.Statics.{inside_of, outside_of, static_port, kept, outside_ports, IsStatic}
-use Rattle.nat_box.specs.Nat.{Settings, forward_table, reverse_table, flow_seen, class_seen, begun_by, mapped}
-use Rattle.nat_box.specs.Nat.{after_find}
+use Rattle.nat_box.specs.Settings.{Settings, AreSettings}
+use Rattle.nat_box.specs.Nat.{forward_table, reverse_table, flow_seen, class_seen, begun_by, mapped, after_find}
 use Rattle.nat_box.specs.Nat.{after_find_within, touched_by, followed, looked, told, after_time, local_at, nat_meaning}
-use Rattle.nat_box.specs.Nat.{kept_mappings}
-use Rattle.nat_box.specs.Nat.{kept_bound, Fits}
-use Rattle.nat_box.specs.Lawful.{AreSettings, var_of, touches_it, nat_lawful}
+use Rattle.nat_box.specs.Nat.{kept_mappings, kept_bound, Fits}
+use Rattle.nat_box.specs.Ranks.{var_of, touches_it}
+use Rattle.nat_box.specs.Lawful.{nat_lawful}
 use Rattle.nat_box.specs.Sentences.{Has, mappings_in, bound_in}
 use Rattle.nat_box.proofs.Making.{goes_on, comes_to}
 use Rattle.nat_box.proofs.SeenAs.{same_flow, flow_is_seen, class_is_seen}
@@ -60,10 +60,9 @@ use Rattle.nat_runs.specs.StaticPorts.{GoesOutFrom, NoneGoingOutIsDropped, OnlyT
 use Rattle.nat_runs.proofs.ThreadMoves.{TouchKind, finds, unbinds_freed, gives_freed, reserves, binds, finds_or_binds}
 use Rattle.nat_runs.proofs.ThreadMoves.{unbinds_lost, gives_lost, counts, LookKind, finds_endpoint, asks, finds_port}
 use Rattle.nat_runs.proofs.ThreadMoves.{touch_kind, look_kind, at_clock, at_draw, at, touched_below, read_below}
-use Rattle.nat_runs.proofs.ThreadMoves.{by_move}
-use Rattle.nat_runs.proofs.ThreadMoves.{begins_with}
-use Rattle.nat_runs.proofs.ThreadMoves.{entry_is}
-use Rattle.nat_runs.proofs.Knowing.{IsBase, KnownAt, Known, run_known}
+use Rattle.nat_runs.proofs.ThreadMoves.{by_move, begins_with, entry_is}
+use Rattle.nat_runs.proofs.Known.{IsBase, KnownAt, Known}
+use Rattle.nat_runs.proofs.Knowing.{run_known}
 
 -- where a packet may be that finds its mapping at once
 abbrev IsStraight : Place → Type 0

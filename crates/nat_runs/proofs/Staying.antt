@@ -1,6 +1,6 @@
 -- A mapping stays until it is idle.
-use Rattle.std.proofs.Common.{◌≡◌, ◌≢◌, ℕ, ◌+◌, ◌*◌, ◌<◌, ◌≤◌, Bool, true, false, List, refl, sym, ap, ◌∙◌, subst}
-use Rattle.std.proofs.Common.{◌⊎◌, inl, inr, arith, Option, Some, None}
+use Rattle.std.proofs.Common.{◌≡◌, ◌≢◌, ℕ, ◌+◌, ◌*◌, ◌<◌, ◌≤◌, Bool, true, false, List, refl, sym, ap, ◌∙◌, subst, ◌⊎◌}
+use Rattle.std.proofs.Common.{inl, inr, arith, Option, Some, None}
 use Rattle.std.specs.Prelude.{cond, nat_eq}
 use Rattle.plain_text.specs.declared.packet.Packet.{Packet}
 use Rattle.entry_order.proofs.Order.{is_or}
@@ -11,8 +11,8 @@ use Rattle.plain_machine.proofs.Histories.{not_eq, is_eq}
 use Rattle.plain_machine.proofs.Bounds.{values_fit}
 use Rattle.nat_tables.specs.declared.entries.Endpoint.{Endpoint}
 use Rattle.nat_tables.specs.declared.slot.Slot.{Slot}
-use Rattle.nat_tables.specs.Forwards.{Forwards, is_idle, slot_of, first_idle, without, found_there, found}
-use Rattle.nat_tables.specs.Forwards.{bound, AreMappings}
+use Rattle.nat_tables.specs.Forwards.{Forwards, is_idle, slot_of, first_idle, without, found_there, found, bound}
+use Rattle.nat_tables.specs.Forwards.{AreMappings}
 use Rattle.nat_tables.specs.declared.entries.Find.{Find}
 use Rattle.nat_tables.specs.declared.entries.Bind.{Bind}
 use Rattle.nat_tables.specs.Hosts.{first_idle_of, find_within, bind_within}
@@ -21,8 +21,9 @@ use Rattle.nat_box.specs.declared.place.Noted.{Noted}
 use Rattle.nat_box.specs.declared.value.NatValue.{NatValue}
 use Rattle.nat_box.specs.declared.value.NatValue.TheVariants.{Mapped}
 use Rattle.nat_box.specs.Places.{noted}
-use Rattle.nat_box.specs.Nat.{Settings, touched_by, followed_by, followed, nat_meaning, MayMap, Fits}
-use Rattle.nat_box.specs.Lawful.{AreSettings, nat_lawful}
+use Rattle.nat_box.specs.Settings.{Settings, AreSettings}
+use Rattle.nat_box.specs.Nat.{touched_by, followed_by, followed, nat_meaning, MayMap, Fits}
+use Rattle.nat_box.specs.Lawful.{nat_lawful}
 use Rattle.nat_box.specs.Sentences.{Has, mappings_in}
 use Rattle.nat_box.proofs.Making.{comes_to}
 use Rattle.nat_runs.specs.Met.{Met, met_of}
@@ -34,7 +35,8 @@ use Rattle.nat_runs.proofs.TableEntries.{slot_there, idle_is, IsLater, IsLeftOr,
 use Rattle.nat_runs.proofs.TableEntries.{left_without_idle, own_slot}
 use Rattle.nat_runs.proofs.ThreadMoves.{TouchKind, finds, unbinds_freed, gives_freed, reserves, binds, finds_or_binds}
 use Rattle.nat_runs.proofs.ThreadMoves.{unbinds_lost, gives_lost, counts, touch_kind, at, touched_below, by_move}
-use Rattle.nat_runs.proofs.Knowing.{KnownAt, Known, run_known}
+use Rattle.nat_runs.proofs.Known.{KnownAt, Known}
+use Rattle.nat_runs.proofs.Knowing.{run_known}
 
 module _ (m : Met) (e : Endpoint × Slot) where
   abbrev Kept : NatValue → Type 0

@@ -21,7 +21,8 @@ use Rattle.nat_tables.specs.declared.phase.Phase.{Phase}
 use Rattle.nat_tables.specs.declared.phase.Phase.TheVariants.{Plain, Opening, Established, Closing}
 use Rattle.nat_tables.specs.declared.phase.Phase.TheVariants.{EndedByClient, EndedByServer, Kept}
 use Rattle.nat_tables.specs.Phases.{timer, is_kept}
-use Rattle.nat_runs.specs.Idle.{idle_after, IsIdle, IsUsed}
+use Rattle.flow_boxes.specs.Idle.{idle_after}
+use Rattle.nat_runs.specs.Idle.{IsIdle, IsLive}
 
 same_port_self : (k : PortKey) → same_port k k ≡ true
 same_port_self k =
@@ -41,22 +42,22 @@ idle_in now last protocol EndedByClient q = (λ k. absurd (cc), grind (arith, na
 idle_in now last protocol EndedByServer q = (λ k. absurd (cc), grind (arith, nat_tests))
 idle_in now last protocol Kept q = absurd (cc)
 
-used_in : (now last protocol : ℕ) (phase : Phase)
+live_in : (now last protocol : ℕ) (phase : Phase)
     → (not (is_kept phase) && not (nat_lt now (last + timer protocol phase))) ≡ false
     → (phase ≡ Kept) ⊎ (now < last + idle_after protocol phase)
-used_in now last protocol Plain q = inr (grind (arith, nat_tests))
-used_in now last protocol (Opening seconds) q = inr (grind (arith, nat_tests))
-used_in now last protocol Established q = inr (grind (arith, nat_tests))
-used_in now last protocol (Closing seconds) q = inr (grind (arith, nat_tests))
-used_in now last protocol EndedByClient q = inr (grind (arith, nat_tests))
-used_in now last protocol EndedByServer q = inr (grind (arith, nat_tests))
-used_in now last protocol Kept q = inl refl
+live_in now last protocol Plain q = inr (grind (arith, nat_tests))
+live_in now last protocol (Opening seconds) q = inr (grind (arith, nat_tests))
+live_in now last protocol Established q = inr (grind (arith, nat_tests))
+live_in now last protocol (Closing seconds) q = inr (grind (arith, nat_tests))
+live_in now last protocol EndedByClient q = inr (grind (arith, nat_tests))
+live_in now last protocol EndedByServer q = inr (grind (arith, nat_tests))
+live_in now last protocol Kept q = inl refl
 
 pub idle_is : (now : ℕ) (e : Endpoint × Slot) → is_idle now e ≡ true → IsIdle now e.0 e.1
 idle_is now e q = idle_in now e.1.last e.0.protocol e.1.phase q
 
-pub used_is : (now : ℕ) (e : Endpoint × Slot) → is_idle now e ≡ false → IsUsed now e.0 e.1
-used_is now e q = used_in now e.1.last e.0.protocol e.1.phase q
+pub live_is : (now : ℕ) (e : Endpoint × Slot) → is_idle now e ≡ false → IsLive now e.0 e.1
+live_is now e q = live_in now e.1.last e.0.protocol e.1.phase q
 
 -- Entries as they are found
 
@@ -113,17 +114,17 @@ not_true true e = absurd (cc)
 not_true false e = refl
 
 pub lives_is : (key : Endpoint) (port now : ℕ) (es : Forwards) → lives key port now es ≡ true
-    → (slot : Slot) × Has es (key, slot) × (slot.port ≡ port) × IsUsed now key slot
+    → (slot : Slot) × Has es (key, slot) × (slot.port ≡ port) × IsLive now key slot
 lives_is key port now es e = by (slot_of key es) refl e
   where
     by : (o : Option Slot) → slot_of key es ≡ o → lives_at key port now o ≡ true
-        → (slot : Slot) × Has es (key, slot) × (slot.port ≡ port) × IsUsed now key slot
+        → (slot : Slot) × Has es (key, slot) × (slot.port ≡ port) × IsLive now key slot
     by None q e = absurd (cc)
     by (Some slot) q e = (
       slot,
       slot_in key slot es q,
       eqb-true _ _ (and_left (slot.port == port) (not (is_idle now (key, slot))) e),
-      used_is now (key, slot) (not_true (is_idle now (key, slot))
+      live_is now (key, slot) (not_true (is_idle now (key, slot))
           (and_right (slot.port == port) (not (is_idle now (key, slot))) e)),
     )
 

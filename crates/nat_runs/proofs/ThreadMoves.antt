@@ -21,9 +21,10 @@ use Rattle.flow_boxes.specs.declared.drops.Drops.{Drops}
 use Rattle.nat_box.specs.declared.value.NatValue.{NatValue}
 use Rattle.nat_box.specs.declared.value.NatValue.TheVariants.{Dropped, Free, Mapped, Taken}
 use Rattle.nat_box.specs.Places.{place_numbered, noted}
-use Rattle.nat_box.specs.Nat.{Settings, goes, next_move, seen_by, begun, touched_by, followed, looked, told, local_at}
+use Rattle.nat_box.specs.Settings.{Settings, AreSettings}
+use Rattle.nat_box.specs.Nat.{goes, next_move, seen_by, begun, touched_by, followed, looked, told, local_at}
 use Rattle.nat_box.specs.Nat.{nat_meaning, Fits}
-use Rattle.nat_box.specs.Lawful.{AreSettings, var_of, touches_it, reads_it, below_all}
+use Rattle.nat_box.specs.Ranks.{var_of, touches_it, reads_it, below_all}
 use Rattle.nat_box.proofs.Making.{goes_on, comes_to}
 
 -- Where a touch is made, and of which value

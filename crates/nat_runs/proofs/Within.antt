@@ -23,8 +23,8 @@ use Rattle.nat_box.specs.declared.value.NatValue.{NatValue}
 use Rattle.nat_box.specs.declared.value.NatValue.TheVariants.{Dropped, Free, Mapped, Taken}
 use Rattle.nat_box.specs.Statics.{kept, outside_ports}
 use Rattle.nat_box.specs.StaticLaws.{kept_whole, of_whole}
-use Rattle.nat_box.specs.Nat.{Settings, followed_by, nat_meaning}
-use Rattle.nat_box.specs.Lawful.{AreSettings}
+use Rattle.nat_box.specs.Settings.{Settings, AreSettings}
+use Rattle.nat_box.specs.Nat.{followed_by, nat_meaning}
 use Rattle.nat_box.specs.PortStanding.{maps, mapped_at, in_values, places_of}
 use Rattle.nat_box.specs.Sentences.{Has, mappings_in, IsMapping}
 use Rattle.nat_box.proofs.Standing.{ports_stand}

@@ -23,8 +23,8 @@ use Rattle.nat_box.specs.declared.value.NatValue.TheVariants.{Dropped}
 use Rattle.flow_boxes.specs.Flows.{endpoint, source_of, HaveBytes}
 use Rattle.flow_boxes.specs.Drops.{reason_of}
 use Rattle.nat_box.specs.declared.place.Class.TheVariants.{OutboundError}
-use Rattle.nat_box.specs.Nat.{Settings, flow_seen, class_seen, nat_meaning}
-use Rattle.nat_box.specs.Lawful.{AreSettings}
+use Rattle.nat_box.specs.Settings.{Settings, AreSettings}
+use Rattle.nat_box.specs.Nat.{flow_seen, class_seen, nat_meaning}
 use Rattle.nat_box.specs.PortStanding.{free_at}
 use Rattle.nat_box.specs.Sentences.{Has, bound_in, IsMapping}
 use Rattle.nat_runs.specs.Classes.{IsFromInside, GoesInside}
@@ -54,45 +54,44 @@ IsUnbound s value port =
     (v : ℕ) (key : Endpoint) → v < 2 + 2 * s.shards → Has (bound_in (value v)) (port, key) → ⊥
 
 -- the endpoint has no mapping to the port, or an idle one
-abbrev pub HasNoneUsed : Settings → (ℕ → NatValue) → Endpoint → ℕ → ℕ → Type 0
-HasNoneUsed s value key port now =
+abbrev pub HasNoneLive : Settings → (ℕ → NatValue) → Endpoint → ℕ → ℕ → Type 0
+HasNoneLive s value key port now =
     (v : ℕ) (slot : Slot) → IsMapping s value v (key, slot) → slot.port ≡ port → IsIdle now key slot
 
--- its endpoint had no mapping that is not idle, when the packet touched a forward table
-abbrev pub HadNoneUsed : Settings → Flow → Met → Type 0
-HadNoneUsed s flow met =
+-- its endpoint had no live mapping when the packet touched a forward table
+abbrev pub HadNoneLive : Settings → Flow → Met → Type 0
+HadNoneLive s flow met =
     (value : ℕ → NatValue) × (now : ℕ) × (met.at_touch ≡ Some value) × (met.clock ≡ Some now)
-    × ((port : ℕ) → HasNoneUsed s value (source_of flow) port now)
+    × ((port : ℕ) → HasNoneLive s value (source_of flow) port now)
 
--- 8: it comes from inside, from an endpoint that had no mapping that is not idle, and when it touched the pool, no port
+-- 8: it comes from inside, from an endpoint that had no live mapping, and when it touched the pool, no port
 -- of its protocol was free
 abbrev pub FoundNoPort : Settings → Packet → Met → ℕ → Type 0
 FoundNoPort s p met reason =
-    (flow : Flow) × IsFlow p flow × IsFromInside s flow × HadNoneUsed s flow met
+    (flow : Flow) × IsFlow p flow × IsFromInside s flow × HadNoneLive s flow met
     × (value : ℕ → NatValue) × (met.at_pool ≡ Some value)
     × ((v port : ℕ) → v < 2 + 2 * s.shards → free_at (port_key flow.protocol port) (value v) ≡ 0) × (reason ≡ 8)
 
 -- an endpoint was bound to the port, and when the packet read a forward table, it had no mapping to it, or an idle one
-abbrev pub FoundNoneUsed : Settings → Flow → Met → (ℕ → NatValue) → Type 0
-FoundNoneUsed s flow met bound =
+abbrev pub FoundNoneLive : Settings → Flow → Met → (ℕ → NatValue) → Type 0
+FoundNoneLive s flow met bound =
     (v : ℕ) × (key : Endpoint) × Has (bound_in (bound v)) (port_key flow.protocol flow.dest_port, key)
     × (value : ℕ → NatValue) × (now : ℕ) × (met.at_forward ≡ Some value) × (met.clock ≡ Some now)
-    × HasNoneUsed s value (endpoint flow.protocol key.address key.port) flow.dest_port now
+    × HasNoneLive s value (endpoint flow.protocol key.address key.port) flow.dest_port now
 
--- 7: it goes inside, and when it read a reverse table, nothing was bound to the port that it goes to, or no mapping
--- that is not idle
+-- 7: it goes inside, and when it read a reverse table, nothing was bound to the port that it goes to, or no live
+-- mapping
 abbrev pub FoundNoMapping : Settings → Packet → Met → ℕ → Type 0
 FoundNoMapping s p met reason =
     (flow : Flow) × IsSeenAs s p flow × GoesInside s p × (bound : ℕ → NatValue) × (met.at_reverse ≡ Some bound)
-    × (IsUnbound s bound (port_key flow.protocol flow.dest_port) ⊎ FoundNoneUsed s flow met bound) × (reason ≡ 7)
+    × (IsUnbound s bound (port_key flow.protocol flow.dest_port) ⊎ FoundNoneLive s flow met bound) × (reason ≡ 7)
 
--- or it is an outbound error, and when it read a forward table, the endpoint that it is about had no mapping that is
--- not idle
+-- or it is an outbound error, and when it read a forward table, the endpoint that it is about had no live mapping
 abbrev pub FoundNoneOut : Settings → Packet → Met → ℕ → Type 0
 FoundNoneOut s p met reason =
     (flow : Flow) × IsSeenAs s p flow × (class_seen s p ≡ Some OutboundError) × (value : ℕ → NatValue) × (now : ℕ)
     × (met.at_forward ≡ Some value) × (met.clock ≡ Some now)
-    × ((port : ℕ) → HasNoneUsed s value (source_of flow) port now) × (reason ≡ 7)
+    × ((port : ℕ) → HasNoneLive s value (source_of flow) port now) × (reason ≡ 7)
 
 -- 10: it comes from inside, and its host had as many mappings of its protocol as it may have, and its source none, in
 -- the forward table as the packet's touch left it

@@ -3,7 +3,8 @@ use Rattle.std.specs.Prelude.{◌≡◌, ◌⊎◌, Some}
 use Rattle.plain_text.specs.declared.packet.Packet.{Packet}
 use Rattle.packet_headers.specs.declared.flow.Flow.{Flow}
 use Rattle.nat_box.specs.declared.place.Class.TheVariants.{Outbound, Hairpin, Inbound}
-use Rattle.nat_box.specs.Nat.{Settings, class_of_flow, class_seen}
+use Rattle.nat_box.specs.Settings.{Settings}
+use Rattle.nat_box.specs.Nat.{class_of_flow, class_seen}
 
 abbrev pub IsFromInside : Settings → Flow → Type 0
 IsFromInside s flow =

@@ -18,8 +18,8 @@ use Rattle.flow_boxes.specs.Flows.{source_of, HaveBytes}
 use Rattle.nat_box.specs.declared.seeing.Seen.{Seen}
 use Rattle.nat_box.specs.declared.value.NatValue.{NatValue}
 use Rattle.nat_box.specs.Places.{place_numbered, noted}
-use Rattle.nat_box.specs.Nat.{Settings, begun, touched_by, local_at, nat_meaning}
-use Rattle.nat_box.specs.Lawful.{AreSettings}
+use Rattle.nat_box.specs.Settings.{Settings, AreSettings}
+use Rattle.nat_box.specs.Nat.{begun, touched_by, local_at, nat_meaning}
 use Rattle.nat_box.specs.Sentences.{Has, mappings_in, IsMapping}
 
 -- TCP is protocol 6.

@@ -16,8 +16,8 @@ use Rattle.nat_tables.specs.Forwards.{Forwards}
 use Rattle.nat_tables.specs.Hosts.{count_of}
 use Rattle.flow_boxes.specs.Flows.{source_of, HaveBytes}
 use Rattle.nat_box.specs.declared.value.NatValue.{NatValue}
-use Rattle.nat_box.specs.Nat.{Settings, forward_table, nat_meaning}
-use Rattle.nat_box.specs.Lawful.{AreSettings}
+use Rattle.nat_box.specs.Settings.{Settings, AreSettings}
+use Rattle.nat_box.specs.Nat.{forward_table, nat_meaning}
 use Rattle.nat_box.specs.Sentences.{Has, mappings_in}
 use Rattle.nat_runs.specs.Met.{Met, met_of}
 use Rattle.nat_runs.specs.Idle.{IsIdle}

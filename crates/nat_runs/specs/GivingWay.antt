@@ -15,11 +15,11 @@ use Rattle.nat_tables.specs.Hosts.{count_of}
 use Rattle.flow_boxes.specs.Flows.{source_of, HaveBytes}
 use Rattle.nat_box.specs.declared.value.NatValue.{NatValue}
 use Rattle.nat_box.specs.declared.value.NatValue.TheVariants.{Mapped}
-use Rattle.nat_box.specs.Nat.{Settings, nat_meaning}
-use Rattle.nat_box.specs.Lawful.{AreSettings}
+use Rattle.nat_box.specs.Settings.{Settings, AreSettings}
+use Rattle.nat_box.specs.Nat.{nat_meaning}
 use Rattle.nat_box.specs.Sentences.{Has, mappings_in}
 use Rattle.nat_runs.specs.Met.{met_of}
-use Rattle.nat_runs.specs.Idle.{IsIdle, IsUsed}
+use Rattle.nat_runs.specs.Idle.{IsIdle, IsLive}
 use Rattle.nat_runs.specs.FullHosts.{has_drawn}
 
 -- each mapping of the endpoint was used at this time, or is one that was there and was used later
@@ -37,9 +37,9 @@ MayGiveWay (Some most) key es own =
     most ≤ count_of key.protocol key.address es → (own.protocol ≡ key.protocol) × (own.address ≡ key.address)
 
 -- What a packet leaves of a table that looks for the mapping of its source there. A mapping of its source is one that
--- was not idle. Where it had none, and one that may give way was idle, one that was idle is gone.
+-- was live. Where it had none, and one that may give way was idle, one that was idle is gone.
 pub record GiveWay (limit : Option ℕ) (key : Endpoint) (now : ℕ) (es after : Forwards) : Type 0 where
-  pub own : (slot : Slot) → Has after (key, slot) → (old : Slot) × Has es (key, old) × IsUsed now key old
+  pub own : (slot : Slot) → Has after (key, slot) → (old : Slot) × Has es (key, old) × IsLive now key old
   pub other : ((slot : Slot) → Has es (key, slot) → ⊥) → (e : Endpoint × Slot) → Has es e → IsIdle now e.0 e.1
       → MayGiveWay limit key es e.0
       → (gone : Endpoint × Slot) × Has es gone × IsIdle now gone.0 gone.1

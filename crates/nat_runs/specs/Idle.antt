@@ -1,31 +1,13 @@
--- When a mapping is idle, in numbers, whatever timers the tables have.
-use Rattle.std.specs.Prelude.{◌≡◌, ◌≢◌, ℕ, ◌+◌, ◌*◌, ◌<◌, ◌≤◌, ◌⊎◌, max, ◌==◌, if◌then◌else◌}
+-- When a mapping is idle, and when it is live.
+use Rattle.std.specs.Prelude.{◌≡◌, ◌≢◌, ℕ, ◌+◌, ◌<◌, ◌≤◌, ◌⊎◌}
 use Rattle.nat_tables.specs.declared.entries.Endpoint.{Endpoint}
 use Rattle.nat_tables.specs.declared.slot.Slot.{Slot}
-use Rattle.nat_tables.specs.declared.phase.Phase.{Phase}
-use Rattle.nat_tables.specs.declared.phase.Phase.TheVariants.{Plain, Opening, Established, Closing}
-use Rattle.nat_tables.specs.declared.phase.Phase.TheVariants.{EndedByClient, EndedByServer, Kept}
+use Rattle.nat_tables.specs.declared.phase.Phase.TheVariants.{Kept}
+use Rattle.flow_boxes.specs.Idle.{idle_after}
 
-abbrev pub microseconds : ℕ → ℕ
-microseconds seconds = seconds * 1000000
-
--- 2 hours and 4 minutes of TCP, which is protocol 6 (RFC 5382, REQ-5), and 5 minutes of UDP (RFC 4787, REQ-5)
-abbrev pub idle_by_protocol : ℕ → ℕ
-idle_by_protocol protocol = if protocol == 6 then microseconds 7440 else microseconds 300
-
--- so long where no connection is followed, or one was established; else its own number of seconds, and at least one
-abbrev pub idle_after : ℕ → Phase → ℕ
-idle_after protocol Plain = idle_by_protocol protocol
-idle_after protocol (Opening seconds) = microseconds (max 1 seconds)
-idle_after protocol Established = idle_by_protocol protocol
-idle_after protocol (Closing seconds) = microseconds (max 1 seconds)
-idle_after protocol EndedByClient = idle_by_protocol protocol
-idle_after protocol EndedByServer = idle_by_protocol protocol
-idle_after protocol Kept = idle_by_protocol protocol
-
--- the endpoint's mapping was not used for that long, and it is not kept for good, as that of a static port is
+-- the endpoint's mapping was not used for its time, and it is not kept for good, as that of a static port is
 abbrev pub IsIdle : ℕ → Endpoint → Slot → Type 0
 IsIdle now key slot = (slot.phase ≢ Kept) × (slot.last + idle_after key.protocol slot.phase ≤ now)
 
-abbrev pub IsUsed : ℕ → Endpoint → Slot → Type 0
-IsUsed now key slot = (slot.phase ≡ Kept) ⊎ (now < slot.last + idle_after key.protocol slot.phase)
+abbrev pub IsLive : ℕ → Endpoint → Slot → Type 0
+IsLive now key slot = (slot.phase ≡ Kept) ⊎ (now < slot.last + idle_after key.protocol slot.phase)

@@ -4,7 +4,7 @@ pub mod Idle
 pub mod Following
 pub mod Passing
 pub mod Staying
-pub mod Used
+pub mod Live
 pub mod FullHosts
 pub mod GivingWay
 pub mod Parity

@@ -6,12 +6,12 @@ use Rattle.plain_machine.specs.declared.local.Local.{Local}
 use Rattle.plain_machine.specs.History.{Step, value_after, IsHistory}
 use Rattle.nat_tables.specs.declared.entries.Endpoint.{Endpoint}
 use Rattle.nat_tables.specs.Hosts.{is_of_host, count_of}
-use Rattle.nat_box.specs.declared.nat.StaticPort.{StaticPort}
+use Rattle.nat_box.specs.declared.settings.StaticPort.{StaticPort}
 use Rattle.nat_box.specs.declared.value.NatValue.{NatValue}
 use Rattle.nat_box.specs.Places.{place_numbered, noted}
 use Rattle.nat_box.specs.Statics.{inside_of, kept}
-use Rattle.nat_box.specs.Nat.{Settings, touched, followed, local_at, forward_table, nat_meaning}
-use Rattle.nat_box.specs.Lawful.{AreSettings}
+use Rattle.nat_box.specs.Settings.{Settings, AreSettings}
+use Rattle.nat_box.specs.Nat.{touched, followed, local_at, forward_table, nat_meaning}
 use Rattle.nat_box.specs.Sentences.{mappings_in}
 
 -- the mappings of a host and a protocol, over all forward tables

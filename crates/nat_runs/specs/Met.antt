@@ -6,7 +6,8 @@ use Rattle.plain_machine.specs.History.{Act, Took, Did, Emitted, Ended, Step, va
 use Rattle.nat_tables.specs.Forwards.{Forwards}
 use Rattle.nat_box.specs.declared.value.NatValue.{NatValue}
 use Rattle.nat_box.specs.declared.value.NatValue.TheVariants.{Dropped, Free, Mapped, Taken}
-use Rattle.nat_box.specs.Nat.{Settings, nat_meaning}
+use Rattle.nat_box.specs.Settings.{Settings}
+use Rattle.nat_box.specs.Nat.{nat_meaning}
 use Rattle.nat_box.specs.Emissions.{left_forward}
 
 pub record Met : Type 0 where

@@ -22,8 +22,8 @@ use Rattle.flow_boxes.specs.Flows.{HaveBytes}
 use Rattle.nat_box.specs.declared.value.NatValue.{NatValue}
 use Rattle.nat_box.specs.declared.value.NatValue.TheVariants.{Dropped}
 use Rattle.nat_box.specs.Statics.{static_port, kept, IsStatic}
-use Rattle.nat_box.specs.Nat.{Settings, nat_meaning}
-use Rattle.nat_box.specs.Lawful.{AreSettings}
+use Rattle.nat_box.specs.Settings.{Settings, AreSettings}
+use Rattle.nat_box.specs.Nat.{nat_meaning}
 use Rattle.nat_box.specs.Sentences.{IsMapping}
 use Rattle.nat_runs.specs.Causes.{IsFlow, one_more}
 
@@ -135,7 +135,7 @@ IsSentByClass s sent (Some p) =
 abbrev pub SentByClass : Type 0
 SentByClass =
     (s : Settings) (threads : ℕ) (inputs : ℕ → List Packet) (x : Step NatValue) (earlier : List (Step NatValue))
-    (o : Emission) → AreSettings s → s.inside < 2 ^ 32 → HaveBytes inputs
+    (o : Emission) → AreSettings s → HaveBytes inputs
     → IsHistory (nat_meaning s) inputs threads (x ∷ earlier) → x.act ≡ Emitted o
     → IsSentByClass s o.packet.bytes (slice_get (inputs x.thread) (o.input - 1))
 
@@ -151,7 +151,7 @@ IsCountedByClass s p reason =
 abbrev pub CountedByClass : Type 0
 CountedByClass =
     (s : Settings) (threads : ℕ) (inputs : ℕ → List Packet) (x : Step NatValue) (earlier : List (Step NatValue))
-    (entry : Entry) (left : Option NatValue) (place : ℕ) → AreSettings s → s.inside < 2 ^ 32 → HaveBytes inputs
+    (entry : Entry) (left : Option NatValue) (place : ℕ) → AreSettings s → HaveBytes inputs
     → IsHistory (nat_meaning s) inputs threads (x ∷ earlier) → x.act ≡ Did entry left → entry.what ≡ Access 0 place
     → (h : Hand) × (d : Drops) × (reason : ℕ) × ((thread_after earlier x.thread).hand ≡ Some h)
     × (value_after (nat_meaning s) earlier 0 ≡ Dropped d)

@@ -13,8 +13,8 @@ use Rattle.nat_box.specs.declared.place.Place.{Place}
 use Rattle.nat_box.specs.declared.place.Place.TheVariants.{Ends}
 use Rattle.nat_box.specs.declared.value.NatValue.{NatValue}
 use Rattle.nat_box.specs.declared.value.NatValue.TheVariants.{Dropped, Free, Mapped, Taken}
-use Rattle.nat_box.specs.Nat.{Settings, nat_meaning}
-use Rattle.nat_box.specs.Lawful.{AreSettings}
+use Rattle.nat_box.specs.Settings.{Settings, AreSettings}
+use Rattle.nat_box.specs.Nat.{nat_meaning}
 use Rattle.nat_box.specs.PortStanding.{in_hand, in_hands}
 
 -- how many packets were taken

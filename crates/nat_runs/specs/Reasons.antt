@@ -9,12 +9,10 @@ use Rattle.plain_machine.specs.History.{Did, Step, thread_after, value_after, Is
 use Rattle.flow_boxes.specs.declared.drops.Drops.{Drops}
 use Rattle.nat_box.specs.declared.value.NatValue.{NatValue}
 use Rattle.nat_box.specs.declared.value.NatValue.TheVariants.{Dropped}
-use Rattle.nat_box.specs.Nat.{Settings, nat_meaning}
-use Rattle.nat_box.specs.Lawful.{AreSettings}
+use Rattle.nat_box.specs.Settings.{Settings, AreSettings}
+use Rattle.nat_box.specs.Nat.{nat_meaning}
+use Rattle.nat_box.specs.Places.{reason_register}
 use Rattle.nat_runs.specs.Causes.{one_more}
-
-abbrev pub reason_register : ℕ
-reason_register = 6
 
 abbrev pub reason_in : Hand → ℕ
 reason_in h = slice_index_or h.place.regs reason_register 0

@@ -10,8 +10,8 @@ use Rattle.nat_tables.specs.declared.entries.Endpoint.{Endpoint}
 use Rattle.nat_tables.specs.declared.slot.Slot.{Slot}
 use Rattle.nat_tables.specs.Forwards.{Forwards}
 use Rattle.nat_box.specs.declared.value.NatValue.{NatValue}
-use Rattle.nat_box.specs.Nat.{Settings, nat_meaning}
-use Rattle.nat_box.specs.Lawful.{AreSettings}
+use Rattle.nat_box.specs.Settings.{Settings, AreSettings}
+use Rattle.nat_box.specs.Nat.{nat_meaning}
 use Rattle.nat_box.specs.Sentences.{Has, mappings_in}
 use Rattle.flow_boxes.specs.Flows.{source_of, HaveBytes}
 use Rattle.nat_runs.specs.Classes.{IsFromInside}

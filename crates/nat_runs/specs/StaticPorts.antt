@@ -17,14 +17,14 @@ use Rattle.nat_tables.specs.Forwards.{port_of, HasKept}
 use Rattle.nat_tables.specs.Reverses.{endpoint_of}
 use Rattle.flow_boxes.specs.Drops.{no_drops}
 use Rattle.flow_boxes.specs.Flows.{HaveBytes, source_of}
-use Rattle.nat_box.specs.declared.nat.StaticPort.{StaticPort}
+use Rattle.nat_box.specs.declared.settings.StaticPort.{StaticPort}
 use Rattle.nat_box.specs.declared.place.Class.TheVariants.{Inbound, Outbound}
 use Rattle.nat_box.specs.declared.value.NatValue.{NatValue}
 use Rattle.nat_box.specs.declared.value.NatValue.TheVariants.{Dropped, Free, Mapped, Taken}
 use Rattle.nat_box.specs.Statics.{inside_of, outside_of, static_port, kept, IsStatic}
-use Rattle.nat_box.specs.Nat.{Settings, flow_seen, class_of_flow, class_seen, forward_table, reverse_table}
+use Rattle.nat_box.specs.Settings.{Settings, AreSettings}
+use Rattle.nat_box.specs.Nat.{flow_seen, class_of_flow, class_seen, forward_table, reverse_table}
 use Rattle.nat_box.specs.Nat.{fresh_value, nat_meaning}
-use Rattle.nat_box.specs.Lawful.{AreSettings}
 use Rattle.nat_box.specs.Sentences.{Has, mappings_in, bound_in, IsMapping}
 
 -- Its endpoint is mapped to its outside port for good, the port's reverse entry names this endpoint, and no other

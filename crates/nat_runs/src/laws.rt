@@ -5,7 +5,7 @@ ghost use Rattle.nat_runs.specs.Parity.{NewHaveParity};
 ghost use Rattle.nat_runs.specs.Staying.{MappingsStay};
 ghost use Rattle.nat_runs.specs.Following.{FollowedByTheLine, NoneFollowedWithoutIt};
 ghost use Rattle.nat_runs.specs.Following.{TouchesAsBefore, BeginsAsBefore, HostsFollow};
-ghost use Rattle.nat_runs.specs.Used.{ComesInByUsed};
+ghost use Rattle.nat_runs.specs.Live.{ComesInByLive};
 ghost use Rattle.nat_runs.specs.Causes.{DropsHaveCauses};
 ghost use Rattle.nat_runs.specs.Reasons.{ReasonsStand};
 ghost use Rattle.nat_runs.specs.Inbound.{InboundChangesNoTable};
@@ -68,11 +68,11 @@ pub fn connections_are_followed_by_the_line()
 {}
 
 /// What goes back inside, of an inbound or a hairpin packet (RFC 4787, REQ-9), goes to an endpoint that has a mapping
-/// to the packet's port, and this mapping is not idle: it was used less than 300 s of UDP, 7,440 s of TCP before the
+/// to the packet's port, and this mapping is live: it was used less than 300 s of UDP, 7,440 s of TCP before the
 /// time that the packet was told. So does each error of ICMP that is sent out: of an inbound one the mapping is of the
 /// endpoint from which the quoted packet came (RFC 5508, REQ-4), of an outbound one that to which it went (REQ-5).
-pub fn what_comes_in_found_a_used_mapping()
-    ensures { ComesInByUsed }
+pub fn what_comes_in_found_a_live_mapping()
+    ensures { ComesInByLive }
 {}
 
 /// Each drop that is counted has the cause of its reason: the frame is no flow (1 to 6), or a stray (9); its endpoint

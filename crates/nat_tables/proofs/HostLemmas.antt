@@ -1,6 +1,6 @@
 -- What hosts have after a mapping is made, changed or removed, and the counts of it.
-use Rattle.std.proofs.Common.{◌≡◌, ◌==◌, ℕ, zero, suc, ◌+◌, ◌-◌, Bool, true, false, List, [], ◌∷◌, ◌++◌, cond, drop}
-use Rattle.std.proofs.Common.{refl, sym, ap, subst, ◌∙◌, arith, Option, Some, None}
+use Rattle.std.proofs.Common.{◌≡◌, ◌==◌, ℕ, zero, suc, ◌+◌, ◌-◌, ◌≤◌, Bool, true, false, List, [], ◌∷◌, ◌++◌, cond, drop}
+use Rattle.std.proofs.Common.{refl, sym, ap, subst, ◌∙◌, arith, Option, Some, None, length}
 use Rattle.std.specs.Prelude.{◌&&◌, if◌then◌else◌}
 use Rattle.std.specs.Map.{lookup}
 use Rattle.std.proofs.lemmas.Bool.{eqb-true}
@@ -225,20 +225,20 @@ none_of_host key now (e ∷ es) none =
     by false true q is rest = rw q (rest is)
     by false false q is rest = rest is
 
-pub no_row_of_host : (key : Endpoint) (now : ℕ) (rows : List (Option (Endpoint × Slot))) → NoneIsIdle now rows
+pub no_row_of_host : (key : Endpoint) (now : ℕ) (rows : List (Option (Endpoint × Slot))) → NoneIsIdle 0 now rows
     → first_idle_of key now (present rows) ≡ None
 no_row_of_host key now rows none = none_of_host key now (present rows) (none_is now rows none)
 
 skipped : (key : Endpoint) (now : ℕ) (e : Endpoint × Slot) (es : Forwards) → is_idle now e ≡ false
     → first_idle_of key now (e ∷ es) ≡ first_idle_of key now es
-skipped key now e es busy = by (is_of_host key.protocol key.address e.0)
+skipped key now e es live = by (is_of_host key.protocol key.address e.0)
   where
     by : (of : Bool)
         → (if of && is_idle now e then Some e else first_idle_of key now es) ≡ first_idle_of key now es
-    by true = rw busy refl
+    by true = rw live refl
     by false = refl
 
-pub idle_from : (key : Endpoint) (now : ℕ) (rows : List (Option (Endpoint × Slot))) (at : ℕ) → IsFirstIdle now rows at
+pub idle_from : (key : Endpoint) (now : ℕ) (rows : List (Option (Endpoint × Slot))) (at : ℕ) → IsFirstIdle 0 now rows at
     → first_idle_of key now (present (drop at rows)) ≡ first_idle_of key now (present rows)
 idle_from key now [] zero first = refl
 idle_from key now [] (suc at) first = refl
@@ -246,4 +246,35 @@ idle_from key now (row ∷ rows) zero first = refl
 idle_from key now (None ∷ rows) (suc at) first = idle_from key now rows at (later_first now None rows at first)
 idle_from key now (Some e ∷ rows) (suc at) first =
     idle_from key now rows at (later_first now (Some e) rows at first)
-    ∙ sym (skipped key now e (present rows) (first.others 0 (omega arith)))
+    ∙ sym (skipped key now e (present rows) (first.others 0 (omega arith) (omega arith)))
+
+-- The same from a row on
+
+pub none_from : (key : Endpoint) (now : ℕ) (rows : List (Option (Endpoint × Slot))) (start : ℕ)
+    → NoneIsIdle start now rows → first_idle_of key now (present (drop start rows)) ≡ None
+none_from key now rows zero none = no_row_of_host key now rows none
+none_from key now [] (suc start) none = refl
+none_from key now (row ∷ rows) (suc start) none =
+    none_from key now rows start (λ k past. none (suc k) (omega arith))
+
+pub skips_to : (key : Endpoint) (now : ℕ) (rows : List (Option (Endpoint × Slot))) (start at : ℕ)
+    → IsFirstIdle start now rows at
+    → first_idle_of key now (present (drop start rows)) ≡ first_idle_of key now (present (drop at rows))
+skips_to key now rows zero at first = sym (idle_from key now rows at first)
+skips_to key now rows (suc start) zero first = absurd (let from = first.from in omega arith)
+skips_to key now [] (suc start) (suc at) first = refl
+skips_to key now (row ∷ rows) (suc start) (suc at) first =
+    skips_to key now rows start at
+    (record {
+      from = let from = first.from in omega arith;
+      idle = first.idle;
+      others = λ k past less. first.others (suc k) (omega arith) (omega arith);
+    })
+
+-- past the last row there is none
+pub none_past : (key : Endpoint) (now : ℕ) (rows : List (Option (Endpoint × Slot))) (start : ℕ) → length rows ≤ start
+    → first_idle_of key now (present (drop start rows)) ≡ None
+none_past key now [] zero past = refl
+none_past key now [] (suc start) past = refl
+none_past key now (row ∷ rows) zero past = absurd (omega arith)
+none_past key now (row ∷ rows) (suc start) past = none_past key now rows start (omega arith)

@@ -1,4 +1,4 @@
--- The first idle mapping of rows, by times up to which they are not idle.
+-- The first idle mapping of rows, by times up to which they are live.
 use Rattle.std.proofs.Common.{◌≡◌, ◌==◌, ℕ, zero, suc, ◌+◌, ◌<◌, ◌≤◌, Bool, true, false, List, [], ◌∷◌, ◌++◌, length}
 use Rattle.std.proofs.Common.{set}
 use Rattle.std.proofs.Common.{refl, sym, ap, subst, ◌∙◌, arith, ⊎_elim, Option, Some, None, length-append}
@@ -18,7 +18,7 @@ use Rattle.nat_tables.specs.Keys.{same_endpoint}
 use Rattle.nat_tables.specs.Ports.{one_if}
 use Rattle.nat_tables.specs.Rows.{present, row_at}
 use Rattle.nat_tables.specs.Times.{never, time_at, AreFrom, IsFirstBefore}
-use Rattle.nat_tables.specs.Idling.{IsBusyUntil, AreBusyUntil, row_is_idle, NoneIsIdle, IsFirstIdle}
+use Rattle.nat_tables.specs.Idling.{IsLiveUntil, AreLiveUntil, row_is_idle, NoneIsIdle, IsFirstIdle}
 use Rattle.nat_tables.proofs.RowLemmas.{row_set_same, row_set_other, row_added, row_kept}
 
 abbrev Row : Type 0
@@ -26,111 +26,112 @@ Row = Option (Endpoint × Slot)
 
 -- Times and rows after a change
 
-pub busy_noted : (times : List ℕ) (rows : List Row) (at time : ℕ) → AreBusyUntil times rows
-    → IsBusyUntil time (row_at rows at) → AreBusyUntil (set times at time) rows
-busy_noted times rows at time busy later = record {
-  long = let l = busy.long in let s = length-set times at time in omega arith;
+pub live_noted : (times : List ℕ) (rows : List Row) (at time : ℕ) → AreLiveUntil times rows
+    → IsLiveUntil time (row_at rows at) → AreLiveUntil (set times at time) rows
+live_noted times rows at time live later = record {
+  long = let l = live.long in let s = length-set times at time in omega arith;
   each = λ k less. by k less (k == at) refl;
 }
   where
     by : (k : ℕ) → k < length rows → (b : Bool) → (k == at) ≡ b
-        → IsBusyUntil (time_at (set times at time) k) (row_at rows k)
+        → IsLiveUntil (time_at (set times at time) k) (row_at rows k)
     by k less true e =
         let here : at ≡ k = sym (eqb-true _ _ e) in
-        let l = busy.long in
+        let l = live.long in
         let same : time_at (set times at time) at ≡ time =
         get_or-set_same times at time never (let inside : at < length rows = rw here less in omega arith) in
-        subst (λ (j : ℕ). IsBusyUntil (time_at (set times at time) j) (row_at rows j)) here (rw same later)
+        subst (λ (j : ℕ). IsLiveUntil (time_at (set times at time) j) (row_at rows j)) here (rw same later)
     by k less false e =
         let apart : k ≢ at = (λ same. grind (arith, nat_tests)) in
-        rw (get_or-set_other times at k time never apart) (busy.each k less)
+        rw (get_or-set_other times at k time never apart) (live.each k less)
 
-row_changed : (times : List ℕ) (rows : List Row) (at : ℕ) (row : Row) → AreBusyUntil times rows
-    → (at < length rows → IsBusyUntil (time_at times at) row) → AreBusyUntil times (set rows at row)
-row_changed times rows at row busy new = record {
-  long = let l = busy.long in let s = length-set rows at row in omega arith;
+row_changed : (times : List ℕ) (rows : List Row) (at : ℕ) (row : Row) → AreLiveUntil times rows
+    → (at < length rows → IsLiveUntil (time_at times at) row) → AreLiveUntil times (set rows at row)
+row_changed times rows at row live new = record {
+  long = let l = live.long in let s = length-set rows at row in omega arith;
   each = λ k less. by k (let s = length-set rows at row in omega arith) (k == at) refl;
 }
   where
     by : (k : ℕ) → k < length rows → (b : Bool) → (k == at) ≡ b
-        → IsBusyUntil (time_at times k) (row_at (set rows at row) k)
+        → IsLiveUntil (time_at times k) (row_at (set rows at row) k)
     by k less true e =
         let here : at ≡ k = sym (eqb-true _ _ e) in
         let inside : at < length rows = rw here less in
-        subst (λ (j : ℕ). IsBusyUntil (time_at times j) (row_at (set rows at row) j)) here
+        subst (λ (j : ℕ). IsLiveUntil (time_at times j) (row_at (set rows at row) j)) here
         (rw (row_set_same rows at row inside) (new inside))
     by k less false e =
         let apart : k ≢ at = (λ same. grind (arith, nat_tests)) in
-        rw (row_set_other rows at k row apart) (busy.each k less)
+        rw (row_set_other rows at k row apart) (live.each k less)
 
-pub busy_cleared : (times : List ℕ) (rows : List Row) (at : ℕ) → AreBusyUntil times rows
-    → AreBusyUntil times (set rows at None)
-busy_cleared times rows at busy = row_changed times rows at None busy (λ inside. tt)
+pub live_cleared : (times : List ℕ) (rows : List Row) (at : ℕ) → AreLiveUntil times rows
+    → AreLiveUntil times (set rows at None)
+live_cleared times rows at live = row_changed times rows at None live (λ inside. tt)
 
-pub busy_used : (times : List ℕ) (rows : List Row) (at now : ℕ) (own : Endpoint) (slot : Slot) → AreBusyUntil times rows
-    → row_at rows at ≡ Some (own, slot) → AreBusyUntil times (set rows at (Some (own, refreshed now slot)))
-busy_used times rows at now own slot busy is =
-    row_changed times rows at (Some (own, refreshed now slot)) busy
+pub live_refreshed : (times : List ℕ) (rows : List Row) (at now : ℕ) (own : Endpoint) (slot : Slot)
+    → AreLiveUntil times rows
+    → row_at rows at ≡ Some (own, slot) → AreLiveUntil times (set rows at (Some (own, refreshed now slot)))
+live_refreshed times rows at now own slot live is =
+    row_changed times rows at (Some (own, refreshed now slot)) live
     (λ inside.
-    let old : IsBusyUntil (time_at times at) (Some (own, slot)) = rw is at (busy.each at inside) in
+    let old : IsLiveUntil (time_at times at) (Some (own, slot)) = rw is at (live.each at inside) in
     λ k. let o = old k in omega arith)
 
 -- another mapping and its time in a row
-pub busy_marked : (times : List ℕ) (rows : List Row) (at time : ℕ) (row : Row) → AreBusyUntil times rows
-    → IsBusyUntil time row → AreBusyUntil (set times at time) (set rows at row)
-busy_marked times rows at time row busy new = record {
+pub live_marked : (times : List ℕ) (rows : List Row) (at time : ℕ) (row : Row) → AreLiveUntil times rows
+    → IsLiveUntil time row → AreLiveUntil (set times at time) (set rows at row)
+live_marked times rows at time row live new = record {
   long =
-      let l = busy.long in
+      let l = live.long in
       let s = length-set rows at row in
       let t = length-set times at time in omega arith;
   each = λ k less. by k (let s = length-set rows at row in omega arith) (k == at) refl;
 }
   where
     by : (k : ℕ) → k < length rows → (b : Bool) → (k == at) ≡ b
-        → IsBusyUntil (time_at (set times at time) k) (row_at (set rows at row) k)
+        → IsLiveUntil (time_at (set times at time) k) (row_at (set rows at row) k)
     by k less true e =
         let here : at ≡ k = sym (eqb-true _ _ e) in
         let inside : at < length rows = rw here less in
-        let l = busy.long in
+        let l = live.long in
         let same : time_at (set times at time) at ≡ time = get_or-set_same times at time never (omega arith) in
-        subst (λ (j : ℕ). IsBusyUntil (time_at (set times at time) j) (row_at (set rows at row) j)) here
+        subst (λ (j : ℕ). IsLiveUntil (time_at (set times at time) j) (row_at (set rows at row) j)) here
         (rw (same, row_set_same rows at row inside) new)
     by k less false e =
         let apart : k ≢ at = (λ same. grind (arith, nat_tests)) in
-        rw (get_or-set_other times at k time never apart, row_set_other rows at k row apart) (busy.each k less)
+        rw (get_or-set_other times at k time never apart, row_set_other rows at k row apart) (live.each k less)
 
-pub busy_pushed : (times : List ℕ) (rows : List Row) (at time : ℕ) (key : Endpoint) (slot : Slot)
-    → AreBusyUntil times rows → length rows < length times → at ≡ length rows
-    → IsBusyUntil time (Some (key, slot))
-    → AreBusyUntil (set times at time) (rows ++ Some (key, slot) ∷ [])
-busy_pushed times rows at time key slot busy room last later = record {
+pub live_pushed : (times : List ℕ) (rows : List Row) (at time : ℕ) (key : Endpoint) (slot : Slot)
+    → AreLiveUntil times rows → length rows < length times → at ≡ length rows
+    → IsLiveUntil time (Some (key, slot))
+    → AreLiveUntil (set times at time) (rows ++ Some (key, slot) ∷ [])
+live_pushed times rows at time key slot live room last later = record {
   long = let s = length-set times at time in let l = length-append rows (Some (key, slot) ∷ []) in omega arith;
   each = λ k less. by k (let l = length-append rows (Some (key, slot) ∷ []) in omega arith) (k == at) refl;
 }
   where
     by : (k : ℕ) → k < length rows + 1 → (b : Bool) → (k == at) ≡ b
-        → IsBusyUntil (time_at (set times at time) k) (row_at (rows ++ Some (key, slot) ∷ []) k)
+        → IsLiveUntil (time_at (set times at time) k) (row_at (rows ++ Some (key, slot) ∷ []) k)
     by k less true e =
         let here : at ≡ k = sym (eqb-true _ _ e) in
         let same : time_at (set times at time) at ≡ time = get_or-set_same times at time never (omega arith) in
         let there : row_at (rows ++ Some (key, slot) ∷ []) at ≡ Some (key, slot) =
         rw last (row_added rows (Some (key, slot))) in
-        subst (λ (j : ℕ). IsBusyUntil (time_at (set times at time) j) (row_at (rows ++ Some (key, slot) ∷ []) j)) here
+        subst (λ (j : ℕ). IsLiveUntil (time_at (set times at time) j) (row_at (rows ++ Some (key, slot) ∷ []) j)) here
         (rw (same, there) later)
     by k less false e =
         let apart : k ≢ at = (λ same. grind (arith, nat_tests)) in
         let other : k ≢ length rows = (λ same. apart (same ∙ sym last)) in
         let inside : k < length rows = (let t : (k == at) ≡ false = e in grind (arith, nat_tests)) in
-        rw (get_or-set_other times at k time never apart, row_kept rows (Some (key, slot)) k other) (busy.each k inside)
+        rw (get_or-set_other times at k time never apart, row_kept rows (Some (key, slot)) k other) (live.each k inside)
 
-pub busy_none : AreBusyUntil [] []
-busy_none = record { long = omega arith; each = λ at less. absurd (omega arith) }
+pub live_none : AreLiveUntil [] []
+live_none = record { long = omega arith; each = λ at less. absurd (omega arith) }
 
--- A mapping that is not kept and not idle is before its time
+-- A live mapping that is not kept is before its time
 
 pub idle_by : (now : ℕ) (e : Endpoint × Slot) → is_kept e.1.phase ≡ false → is_idle now e ≡ false
     → now < e.1.last + timer e.0.protocol e.1.phase
-idle_by now e other busy = by (nat_lt now (e.1.last + timer e.0.protocol e.1.phase)) refl (rw other at busy)
+idle_by now e other live = by (nat_lt now (e.1.last + timer e.0.protocol e.1.phase)) refl (rw other at live)
   where
     by : (b : Bool) → nat_lt now (e.1.last + timer e.0.protocol e.1.phase) ≡ b → not b ≡ false
         → now < e.1.last + timer e.0.protocol e.1.phase
@@ -139,14 +140,14 @@ idle_by now e other busy = by (nat_lt now (e.1.last + timer e.0.protocol e.1.pha
 
 -- The first idle mapping
 
-not_idle : (now time : ℕ) (row : Row) → IsBusyUntil time row → now ≤ time → row_is_idle now row ≡ false
-not_idle now time None busy from = refl
-not_idle now time (Some e) busy from = by (is_kept e.1.phase) refl
+not_idle : (now time : ℕ) (row : Row) → IsLiveUntil time row → now ≤ time → row_is_idle now row ≡ false
+not_idle now time None live from = refl
+not_idle now time (Some e) live from = by (is_kept e.1.phase) refl
   where
     by : (b : Bool) → is_kept e.1.phase ≡ b → is_idle now e ≡ false
     by true q = rw q refl
     by false q =
-        let before : time < e.1.last + timer e.0.protocol e.1.phase = busy q in
+        let before : time < e.1.last + timer e.0.protocol e.1.phase = live q in
         let later : nat_lt now (e.1.last + timer e.0.protocol e.1.phase) ≡ true = grind (arith, nat_tests) in
         rw (q, later) refl
 
@@ -155,68 +156,72 @@ row_past [] at past = refl
 row_past (row ∷ rows) zero past = absurd (omega arith)
 row_past (row ∷ rows) (suc at) past = row_past rows at (omega arith)
 
-pub none_found : (now : ℕ) (times : List ℕ) (rows : List Row) → AreBusyUntil times rows → AreFrom now times
-    → NoneIsIdle now rows
-none_found now times rows busy from at =
-    ⊎_elim (λ inside. not_idle now (time_at times at) (row_at rows at) (busy.each at inside) (from at))
+pub none_found : (start now : ℕ) (times : List ℕ) (rows : List Row) → AreLiveUntil times rows
+    → AreFrom start now times → NoneIsIdle start now rows
+none_found start now times rows live from at past =
+    ⊎_elim (λ inside. not_idle now (time_at times at) (row_at rows at) (live.each at inside) (from at past))
     (λ past. rw (row_past rows at past) refl) (cases_lt at (length rows))
 
-idle_inside : (now : ℕ) (rows : List Row) (at : ℕ) → row_is_idle now (row_at rows at) ≡ true → at < length rows
+pub idle_inside : (now : ℕ) (rows : List Row) (at : ℕ) → row_is_idle now (row_at rows at) ≡ true → at < length rows
 idle_inside now [] at idle = absurd (cc)
 idle_inside now (row ∷ rows) zero idle = omega arith
 idle_inside now (row ∷ rows) (suc at) idle = let h = idle_inside now rows at idle in omega arith
 
-pub first_found : (now : ℕ) (times : List ℕ) (rows : List Row) (at : ℕ) → AreBusyUntil times rows
-    → IsFirstBefore now times at → row_is_idle now (row_at rows at) ≡ true → IsFirstIdle now rows at
-first_found now times rows at busy first idle = record {
+pub first_found : (start now : ℕ) (times : List ℕ) (rows : List Row) (at : ℕ) → AreLiveUntil times rows
+    → IsFirstBefore start now times at → row_is_idle now (row_at rows at) ≡ true → IsFirstIdle start now rows at
+first_found start now times rows at live first idle = record {
+  from = first.from;
   idle = idle;
-  others = λ k less.
+  others = λ k past less.
       let inside = idle_inside now rows at idle in
-      not_idle now (time_at times k) (row_at rows k) (busy.each k (omega arith)) (first.others k less);
+      not_idle now (time_at times k) (row_at rows k) (live.each k (omega arith)) (first.others k past less);
 }
 
-pub none_is : (now : ℕ) (rows : List Row) → NoneIsIdle now rows → first_idle now (present rows) ≡ None
+pub none_is : (now : ℕ) (rows : List Row) → NoneIsIdle 0 now rows → first_idle now (present rows) ≡ None
 none_is now [] none = refl
-none_is now (None ∷ rows) none = none_is now rows (λ k. none (suc k))
-none_is now (Some e ∷ rows) none = rw (none 0) (none_is now rows (λ k. none (suc k)))
+none_is now (None ∷ rows) none = none_is now rows (λ k past. none (suc k) (omega arith))
+none_is now (Some e ∷ rows) none =
+    rw (none 0 (omega arith)) (none_is now rows (λ k past. none (suc k) (omega arith)))
 
-pub later_first : (now : ℕ) (row : Row) (rows : List Row) (at : ℕ) → IsFirstIdle now (row ∷ rows) (suc at)
-    → IsFirstIdle now rows at
+pub later_first : (now : ℕ) (row : Row) (rows : List Row) (at : ℕ) → IsFirstIdle 0 now (row ∷ rows) (suc at)
+    → IsFirstIdle 0 now rows at
 later_first now row rows at first = record {
+  from = omega arith;
   idle = first.idle;
-  others = λ k less. first.others (suc k) (omega arith);
+  others = λ k past less. first.others (suc k) (omega arith) (omega arith);
 }
 
-pub first_is : (now : ℕ) (rows : List Row) (at : ℕ) (entry : Endpoint × Slot) → IsFirstIdle now rows at
+pub first_is : (now : ℕ) (rows : List Row) (at : ℕ) (entry : Endpoint × Slot) → IsFirstIdle 0 now rows at
     → row_at rows at ≡ Some entry → first_idle now (present rows) ≡ Some entry
 first_is now [] at entry first is = absurd (cc)
 first_is now (None ∷ rows) zero entry first is = absurd (cc)
 first_is now (Some e ∷ rows) zero entry first is = rw first.idle is
 first_is now (None ∷ rows) (suc at) entry first is = first_is now rows at entry (later_first now None rows at first) is
 first_is now (Some e ∷ rows) (suc at) entry first is =
-    rw (first.others 0 (omega arith)) (first_is now rows at entry (later_first now (Some e) rows at first) is)
+    rw (first.others 0 (omega arith) (omega arith))
+    (first_is now rows at entry (later_first now (Some e) rows at first) is)
 
-pub first_removed : (now : ℕ) (rows : List Row) (at : ℕ) → IsFirstIdle now rows at
+pub first_removed : (now : ℕ) (rows : List Row) (at : ℕ) → IsFirstIdle 0 now rows at
     → without_idle now (present rows) ≡ present (set rows at None)
 first_removed now [] at first = absurd (let h = first.idle in cc)
 first_removed now (None ∷ rows) zero first = absurd (let h = first.idle in cc)
 first_removed now (Some e ∷ rows) zero first = rw first.idle refl
 first_removed now (None ∷ rows) (suc at) first = first_removed now rows at (later_first now None rows at first)
 first_removed now (Some e ∷ rows) (suc at) first =
-    rw (first.others 0 (omega arith))
+    rw (first.others 0 (omega arith) (omega arith))
     (ap (λ rest. e ∷ rest) (first_removed now rows at (later_first now (Some e) rows at first)))
 
 -- an idle row is not empty
-pub idle_some : (now : ℕ) (rows : List Row) (at : ℕ) → IsFirstIdle now rows at → None ≡ row_at rows at → ⊥
+pub idle_some : (now : ℕ) (rows : List Row) (at : ℕ) → IsFirstIdle 0 now rows at → None ≡ row_at rows at → ⊥
 idle_some now rows at first none = let h = rw (← none) at first.idle in cc
 
 -- how many times are before this one
 abbrev pub before_count : ℕ → List ℕ → ℕ
 before_count now times = sum_by (λ time. one_if (nat_lt time now)) times
 
-pub fewer_before : (now : ℕ) (times : List ℕ) (at time : ℕ) → IsFirstBefore now times at → now ≤ time
+pub fewer_before : (start now : ℕ) (times : List ℕ) (at time : ℕ) → IsFirstBefore start now times at → now ≤ time
     → before_count now (set times at time) < before_count now times
-fewer_before now times at time first later =
+fewer_before start now times at time first later =
     let sums = sum_by-set (λ t. one_if (nat_lt t now)) times at time never first.inside in
     let old : nat_lt (time_at times at) now ≡ true = (let b = first.before in grind (arith, nat_tests)) in
     let new : nat_lt time now ≡ false = grind (arith, nat_tests) in

@@ -17,8 +17,8 @@ kept_after seconds Opens = refl
 kept_after seconds Carries = refl
 kept_after seconds Closes = refl
 
-pub kept_busy : (now : ℕ) (key : Endpoint) (slot : Slot) → slot.phase ≡ Kept → is_idle now (key, slot) ≡ false
-kept_busy now key slot kept = rw kept refl
+pub kept_live : (now : ℕ) (key : Endpoint) (slot : Slot) → slot.phase ≡ Kept → is_idle now (key, slot) ≡ false
+kept_live now key slot kept = rw kept refl
 
 module _ (key : Endpoint) (port : ℕ) where
   kept_refreshed : (other : Endpoint) (now : ℕ) (es : Forwards) → HasKept key port es
@@ -80,8 +80,8 @@ module _ (key : Endpoint) (port : ℕ) where
           → HasKept key port (without other (e ∷ es))
       by true true p q at there rest =
           let s : gone ≡ slot = (let a : e.1 ≡ gone = cc in let b : e.1 ≡ slot = cc in sym a ∙ b) in
-          let busy : is_idle now (other, gone) ≡ false =
-          kept_busy now other gone (ap (λ (x : Slot). x.phase) s ∙ kept) in
+          let live : is_idle now (other, gone) ≡ false =
+          kept_live now other gone (ap (λ (x : Slot). x.phase) s ∙ kept) in
           absurd (cc)
       by true false p q at there rest = rw p (slot, there, is, kept)
       by false true p q at there rest = rw (p, q) (slot, there, is, kept)
@@ -99,7 +99,7 @@ module _ (key : Endpoint) (port : ℕ) where
           → HasKept key port (without_idle now (e ∷ es))
       by true true p q there rest =
           let s : e.1 ≡ slot = cc in
-          let busy : is_idle now e ≡ false = kept_busy now e.0 e.1 (ap (λ (x : Slot). x.phase) s ∙ kept) in
+          let live : is_idle now e ≡ false = kept_live now e.0 e.1 (ap (λ (x : Slot). x.phase) s ∙ kept) in
           absurd (cc)
       by true false p q there rest = rw p (slot, there, is, kept)
       by false true p q there rest = rw (p, q) (slot, there, is, kept)

@@ -94,7 +94,7 @@ found key now es (Some slot) idle = found_there key now es slot (is_idle now (ke
 found key now es None (Some e) = (Absent (Some (port_of e)), without_idle now es)
 found key now es None None = (Absent None, es)
 
--- A mapping that is there and not idle is refreshed. One that is idle is removed; where there is none, the first idle
+-- A live mapping is refreshed. One that is idle is removed; where there is none, the first idle
 -- mapping of the table is removed.
 abbrev pub find : Endpoint → ℕ → Forwards → Find × Forwards
 find key now es = found key now es (slot_of key es) (first_idle now es)
@@ -126,7 +126,7 @@ abbrev pub lives_at : Endpoint → ℕ → ℕ → Option Slot → Bool
 lives_at key port now None = false
 lives_at key port now (Some slot) = (slot.port == port) && not (is_idle now (key, slot))
 
--- the key is mapped to this port, and not idle
+-- the key is mapped to this port, and its mapping is live
 abbrev pub lives : Endpoint → ℕ → ℕ → Forwards → Bool
 lives key port now es = lives_at key port now (slot_of key es)
 

@@ -23,12 +23,13 @@ abbrev pub HasPairs : Pairs → List ℕ → Type 0
 HasPairs Alone times = length times ≤ 1
 HasPairs (Of pairs) times = ArePairs pairs.value times
 
--- none is before this time
-abbrev pub AreFrom : ℕ → List ℕ → Type 0
-AreFrom now times = (at : ℕ) → now ≤ time_at times at
+-- from this index on, none is before this time
+abbrev pub AreFrom : ℕ → ℕ → List ℕ → Type 0
+AreFrom start now times = (at : ℕ) → start ≤ at → now ≤ time_at times at
 
--- the first one before this time stands at this index
-pub record IsFirstBefore (now : ℕ) (times : List ℕ) (at : ℕ) : Type 0 where
+-- from this index on, the first one before this time stands at that index
+pub record IsFirstBefore (start now : ℕ) (times : List ℕ) (at : ℕ) : Type 0 where
+  pub from : start ≤ at
   pub inside : at < length times
   pub before : time_at times at < now
-  pub others : (k : ℕ) → k < at → now ≤ time_at times k
+  pub others : (k : ℕ) → start ≤ k → k < at → now ≤ time_at times k

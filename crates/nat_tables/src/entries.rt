@@ -49,7 +49,7 @@ pub struct BoundPort {
 /// What a forward table has for an endpoint at the time of a packet.
 #[derive(Clone, Copy, Debug, PartialEq, Eq)]
 pub enum Find {
-    /// The outside port of its mapping, which is not idle and was refreshed.
+    /// The outside port of its mapping, which is live and was refreshed.
     Live(u16),
     /// It has no mapping; and the outside port of the idle mapping that was removed, if one was.
     Absent(Option<Freed>),

@@ -1,13 +1,13 @@
 ghost use Rattle.std.specs.Prelude.{◌≡◌, [], ◌∷◌, ◌++◌, Some, None, IfOk, OnOk, OnErr, MatchOption};
-ghost use Rattle.std.specs.Prelude.{ℕ, ◌+◌, ◌^◌, ◌<◌, ◌≤◌, false, length, drop};
+ghost use Rattle.std.specs.Prelude.{ℕ, ◌+◌, ◌^◌, ◌<◌, ◌≤◌, false, length};
 ghost use Rattle.nat_tables.specs.Forwards.{slot_of, find, idle_removed, find_or_bind, refresh};
 ghost use Rattle.nat_tables.specs.Forwards.{without, lives, mapping_at, first_idle, mark, keep};
 ghost use Rattle.nat_tables.specs.Forwards.{with_phase, idle_taken};
 ghost use Rattle.nat_tables.specs.Hosts.{count_of, first_idle_of};
 ghost use Rattle.nat_tables.specs.HostCounts.{row_is_of_host};
 ghost use Rattle.nat_tables.specs.Rows.{present, row_at};
-ghost use Rattle.nat_tables.specs.Idling.{AreBusyUntil, IsFirstIdle, NoneIsIdle, row_is_idle};
-ghost use Rattle.nat_tables.specs.Idling.{IsBusyUntil};
+ghost use Rattle.nat_tables.specs.Idling.{AreLiveUntil, IsFirstIdle, NoneIsIdle, row_is_idle};
+ghost use Rattle.nat_tables.specs.Idling.{IsLiveUntil};
 ghost use Rattle.nat_tables.specs.Shown.{mappings_text};
 
 use crate::first_seen::FirstSeen;
@@ -23,9 +23,9 @@ use std::marker::Model;
 #[derive(Debug, Drop)]
 pub struct Forward {
     slots: FirstSeen<Endpoint, Slot>,
-    /// For each row a time up to which its mapping is not idle. A use makes it later, which is noted only when an idle
+    /// For each row a time up to which its mapping is live. A use makes it later, which is noted only when an idle
     /// mapping is looked for. A segment may make it earlier, which is noted at once.
-    busy_until: Times,
+    live_until: Times,
     alloc: Global,
 }
 
@@ -34,13 +34,13 @@ impl Model for Forward {
     ghost use Rattle.nat_tables.specs.declared.entries.Endpoint.{Endpoint};
     ghost use Rattle.nat_tables.specs.declared.slot.Slot.{Slot};
     ghost use Rattle.nat_tables.specs.Rows.{present};
-    ghost use Rattle.nat_tables.specs.Idling.{AreBusyUntil};
+    ghost use Rattle.nat_tables.specs.Idling.{AreLiveUntil};
 
     ghost Value = { List (Endpoint × Slot) };
 
     ghost view = { λ t. present t.slots };
 
-    ghost invariant = { λ t. AreBusyUntil t.busy_until t.slots };
+    ghost invariant = { λ t. AreLiveUntil t.live_until t.slots };
 }
 
 /// Whether the mapping of a row is idle; an empty row has none.
@@ -63,48 +63,62 @@ fn is_of_host(key: &Endpoint, row: Option<(Endpoint, Slot)>) -> bool
     }
 }
 
-/// The last time at which the mapping of a row is not idle; an empty row never is.
-fn busy_until(row: Option<(Endpoint, Slot)>) -> u64
-    ensures busy { IsBusyUntil result row }
+/// The last time at which the mapping of a row is live; of an empty row the last one that there is.
+fn live_until(row: Option<(Endpoint, Slot)>) -> u64
+    ensures live { IsLiveUntil result row }
     ensures last { (now : ℕ) → now < 2 ^ 64 → row_is_idle now row ≡ false → now ≤ result }
 {
     match row {
-        Some((key, slot)) => slot.busy_until(&key),
+        Some((key, slot)) => slot.live_until(&key),
         None => u64::MAX,
     }
 }
 
-/// The row of the first mapping that is idle. What was noted of the rows before it, and is too early, is corrected.
-fn first_idle(slots: &FirstSeen<Endpoint, Slot>, busy: &mut Times, now: u64) -> Option<usize>
-    requires { AreBusyUntil busy.old slots.now }
-    ensures busy { AreBusyUntil busy.new slots.now }
-    ensures first { MatchOption result (NoneIsIdle now slots.now)
-        (λ at. IsFirstIdle now slots.now at) }
+/// The row of the first mapping that is idle, of those in this row and the later ones. What was noted of the rows
+/// before it, and is too early, is corrected.
+fn first_idle(
+    slots: &FirstSeen<Endpoint, Slot>,
+    live: &mut Times,
+    start: usize,
+    now: u64,
+) -> Option<usize>
+    requires { AreLiveUntil live.old slots.now }
+    ensures live { AreLiveUntil live.new slots.now }
+    ensures first { MatchOption result (NoneIsIdle start now slots.now)
+        (λ at. IsFirstIdle start now slots.now at) }
 {
-    while let Some(at) = busy.first_before(now) {
+    while let Some(at) = live.first_before(start, now) {
         let row = slots.row(at);
         if is_idle(row, now) {
             return Some(at);
         }
-        busy.set(at, busy_until(row));
+        live.set(at, live_until(row));
     }
     None
 }
 
-/// The first mapping of the endpoint's host that is idle, of those in this row and the later ones.
-fn first_idle_from(
+/// The first mapping of the endpoint's host that is idle. It looks at rows with an idle mapping alone.
+fn first_idle_of(
     slots: &FirstSeen<Endpoint, Slot>,
-    first: usize,
+    live: &mut Times,
     key: &Endpoint,
     now: u64,
 ) -> Option<(Endpoint, Slot)>
-    ensures { result ≡ first_idle_of key.now now (present (drop first slots.now)) }
+    requires { AreLiveUntil live.old slots.now }
+    ensures live { AreLiveUntil live.new slots.now }
+    ensures first { result ≡ first_idle_of key.now now (present slots.now) }
 {
-    for at in first..slots.rows() {
+    let rows = slots.rows();
+    let mut start = 0;
+    while start < rows {
+        let Some(at) = first_idle(slots, live, start, now) else {
+            return None;
+        };
         let row = slots.row(at);
-        if is_of_host(key, row) && is_idle(row, now) {
+        if is_of_host(key, row) {
             return row;
         }
+        start = at + 1;
     }
     None
 }
@@ -116,12 +130,12 @@ fn times_of(
     count: usize,
 ) -> Result<Times, NoMemory>
     requires { length slots.now ≤ count }
-    ensures busy { IfOk result (λ times. AreBusyUntil times slots.now) }
+    ensures live { IfOk result (λ times. AreLiveUntil times slots.now) }
     ensures count { IfOk result (λ times. length times ≡ count) }
 {
     let mut times = Times::all_never(alloc, count)?;
     for at in 0..slots.rows() {
-        times.set(at, busy_until(slots.row(at)));
+        times.set(at, live_until(slots.row(at)));
     }
     Ok(times)
 }
@@ -130,14 +144,14 @@ fn times_of(
 fn make_room(
     alloc: Global,
     slots: &mut FirstSeen<Endpoint, Slot>,
-    busy: &mut Times,
+    live: &mut Times,
 ) -> Result<(), NoMemory>
-    requires { AreBusyUntil busy.old slots.old }
-    ensures busy { AreBusyUntil busy.new slots.new }
+    requires { AreLiveUntil live.old slots.old }
+    ensures live { AreLiveUntil live.new slots.new }
     ensures same { present slots.new ≡ present slots.old }
-    ensures room { OnOk result (length slots.new < length busy.new) }
+    ensures room { OnOk result (length slots.new < length live.new) }
 {
-    if slots.rows() < busy.len() {
+    if slots.rows() < live.len() {
         return Ok(());
     }
     let swept = slots.swept(alloc)?;
@@ -147,7 +161,7 @@ fn make_room(
         swept.rows().saturating_mul(2).saturating_add(64),
     )?;
     *slots = swept;
-    *busy = times;
+    *live = times;
     Ok(())
 }
 
@@ -158,7 +172,7 @@ impl Forward {
     {
         Forward {
             slots: FirstSeen::new(alloc),
-            busy_until: Times::new(alloc),
+            live_until: Times::new(alloc),
             alloc,
         }
     }
@@ -199,7 +213,7 @@ impl Forward {
         if let Some((at, slot)) = self.slots.find(key) {
             let marked = slot.marked(seconds, segment);
             self.slots.put(at, marked);
-            self.busy_until.set(at, marked.busy_until(key));
+            self.live_until.set(at, marked.live_until(key));
         }
     }
 
@@ -210,7 +224,7 @@ impl Forward {
         if let Some((at, slot)) = self.slots.find(key) {
             let later = slot.in_phase(phase);
             self.slots.put(at, later);
-            self.busy_until.set(at, later.busy_until(key));
+            self.live_until.set(at, later.live_until(key));
         }
     }
 
@@ -220,10 +234,10 @@ impl Forward {
         ensures ok { OnOk result (self.new ≡ self.old ++ (key.now, slot) ∷ []) }
         ensures err { OnErr result (self.new ≡ self.old) }
     {
-        make_room(self.alloc, &mut self.slots, &mut self.busy_until)?;
+        make_room(self.alloc, &mut self.slots, &mut self.live_until)?;
         let at = self.slots.rows();
         self.slots.push(*key, slot)?;
-        self.busy_until.set(at, slot.busy_until(key));
+        self.live_until.set(at, slot.live_until(key));
         Ok(())
     }
 
@@ -231,10 +245,10 @@ impl Forward {
     pub fn take_first_idle(&mut self, now: u64) -> Option<(Endpoint, Slot)>
         ensures { (result, self.new) ≡ idle_taken now self.old (first_idle now self.old) }
     {
-        let at = first_idle(&self.slots, &mut self.busy_until, now)?;
+        let at = first_idle(&self.slots, &mut self.live_until, 0, now)?;
         let (key, slot) = self.slots.row(at)?;
         self.slots.clear(at);
-        self.busy_until.set(at, u64::MAX);
+        self.live_until.set(at, u64::MAX);
         Some((key, slot))
     }
 
@@ -249,9 +263,9 @@ impl Forward {
         })
     }
 
-    /// What an outbound packet finds of its source. A mapping that is there and not idle is refreshed (RFC 4787,
-    /// REQ-6). One that is idle is removed. Where there is none, the first idle mapping of the table is removed, in
-    /// first-seen order, if there is one; it may be of the other protocol.
+    /// What an outbound packet finds of its source. A live mapping is refreshed (RFC 4787, REQ-6). One that is idle
+    /// is removed. Where there is none, the first idle mapping of the table is removed, in first-seen order, if there
+    /// is one; it may be of the other protocol.
     pub fn find(&mut self, key: &Endpoint, now: u64) -> Find
         ensures { (result, self.new) ≡ find key.now now self.old }
     {
@@ -307,7 +321,7 @@ impl Forward {
         Ok(())
     }
 
-    /// Whether the endpoint is mapped to this outside port, and the mapping is not idle. It refreshes nothing.
+    /// Whether the endpoint is mapped to this outside port, and the mapping is live. It refreshes nothing.
     pub fn lives(&self, key: &Endpoint, port: u16, now: u64) -> bool
         ensures { result ≡ lives key.now port now self.now }
     {
@@ -337,14 +351,13 @@ impl Forward {
         count
     }
 
-    /// The first of the mappings of the endpoint's host that is idle. It looks at no row where no mapping is idle, and
-    /// else at those from the first idle one on.
+    /// The first of the mappings of the endpoint's host that is idle. It looks at no live mapping,
+    /// whoever has it.
     pub(crate) fn first_idle_of(&mut self, key: &Endpoint, now: u64) -> Option<(Endpoint, Slot)>
         ensures first { result ≡ first_idle_of key.now now self.old }
         ensures same { self.new ≡ self.old }
     {
-        let first = first_idle(&self.slots, &mut self.busy_until, now)?;
-        first_idle_from(&self.slots, first, key, now)
+        first_idle_of(&self.slots, &mut self.live_until, key, now)
     }
 
     /// The mapping at an index, in first-seen order. None exactly where the index is past the last one.
@@ -365,7 +378,7 @@ impl Forward {
     {
         let slots = self.slots.swept(self.alloc)?;
         Ok(Forward {
-            busy_until: times_of(self.alloc, &slots, slots.rows())?,
+            live_until: times_of(self.alloc, &slots, slots.rows())?,
             slots,
             alloc: self.alloc,
         })

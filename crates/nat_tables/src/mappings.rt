@@ -89,7 +89,7 @@ impl Mappings {
         self.table.slot_of(key)
     }
 
-    /// Whether the endpoint is mapped to this outside port, and the mapping is not idle. It refreshes nothing.
+    /// Whether the endpoint is mapped to this outside port, and the mapping is live. It refreshes nothing.
     pub fn lives(&self, key: &Endpoint, port: u16, now: u64) -> bool
         ensures { result ≡ lives key.now port now self.now }
     {
@@ -154,7 +154,8 @@ impl Mappings {
     }
 
     /// What is found of a source that has no mapping and whose host has as many as it may have: the first of the host's
-    /// that is idle is removed, in first-seen order, if there is one. Where there is none, no mapping is, whoever has it.
+    /// that is idle is removed, in first-seen order, if there is one. Where there is none, no mapping is removed,
+    /// whoever has it.
     fn find_of_full(&mut self, key: &Endpoint, now: u64) -> Find
         ensures { (result, self.new)
             ≡ given_up self.old (first_idle_of key.now now self.old) }

@@ -5,6 +5,7 @@ ghost use Rattle.nat_tables.specs.Shown.{pool_text};
 use crate::PortKey;
 use crate::free_ports::FreePorts;
 use crate::showing::text_of_pool;
+use packet_headers::{TCP, UDP};
 use plain_text::{NoMemory, Text};
 use std::alloc::Global;
 use std::marker::Model;
@@ -51,8 +52,8 @@ impl Pool {
         Ok(Pool {
             low,
             high,
-            tcp: FreePorts::without(alloc, out, 6, low, high)?,
-            udp: FreePorts::without(alloc, out, 17, low, high)?,
+            tcp: FreePorts::without(alloc, out, TCP, low, high)?,
+            udp: FreePorts::without(alloc, out, UDP, low, high)?,
         })
     }
 
@@ -63,14 +64,14 @@ impl Pool {
         ensures { (result, self.new) ≡ reserve protocol port draw self.old }
     {
         match protocol {
-            6 => self.tcp.reserve(port, draw),
-            17 => self.udp.reserve(port, draw),
+            TCP => self.tcp.reserve(port, draw),
+            UDP => self.udp.reserve(port, draw),
             _ => None,
         }
     }
 
-    /// Makes a port free. It changes nothing where the port is out of range or free, or the protocol is neither 6 nor
-    /// 17. It takes no memory.
+    /// Makes a port free. It changes nothing where the port is out of range or free, or the protocol is neither TCP nor
+    /// UDP. It takes no memory.
     pub fn give_back(&mut self, protocol: u8, port: u16)
         ensures { self.new ≡ give_back protocol port self.old }
     {
@@ -78,19 +79,19 @@ impl Pool {
             return;
         }
         match protocol {
-            6 => self.tcp.give_back(port),
-            17 => self.udp.give_back(port),
+            TCP => self.tcp.give_back(port),
+            UDP => self.udp.give_back(port),
             _ => {}
         }
     }
 
-    /// How many ports of the protocol are free; 0 where it is neither 6 nor 17.
+    /// How many ports of the protocol are free; 0 where it is neither TCP nor UDP.
     pub fn free(&self, protocol: u8) -> u64
         ensures { result ≡ free_count protocol self.now }
     {
         match protocol {
-            6 => self.tcp.count() as u64,
-            17 => self.udp.count() as u64,
+            TCP => self.tcp.count() as u64,
+            UDP => self.udp.count() as u64,
             _ => 0,
         }
     }

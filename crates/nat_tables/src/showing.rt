@@ -3,6 +3,7 @@ ghost use Rattle.nat_tables.specs.Shown.{pool_text, mapping_text, bound_text};
 
 use crate::{Endpoint, Pool, PortKey, Slot};
 use flow_text::{endpoint_text, protocol_text};
+use packet_headers::{TCP, UDP};
 use plain_text::{NoMemory, Text, put_decimal};
 use std::alloc::Global;
 
@@ -12,9 +13,9 @@ pub(crate) fn text_of_pool(alloc: Global, pool: &Pool) -> Result<Text, NoMemory>
 {
     let mut text = String::new(alloc);
     text.push_str("tcp ")?;
-    put_decimal(&mut text, pool.free(6))?;
+    put_decimal(&mut text, pool.free(TCP))?;
     text.push_str(" udp ")?;
-    put_decimal(&mut text, pool.free(17))?;
+    put_decimal(&mut text, pool.free(UDP))?;
     Text::of(alloc, text.as_str())
 }
 

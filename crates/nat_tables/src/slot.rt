@@ -1,9 +1,10 @@
 ghost use Rattle.std.specs.Prelude.{◌≡◌, ℕ, ◌+◌, ◌^◌, ◌<◌, ◌≤◌, false, nat_lt, not, Some};
 ghost use Rattle.nat_tables.specs.Phases.{protocol_timer, timer, is_kept, phase_after};
 ghost use Rattle.nat_tables.specs.Forwards.{is_idle, refreshed, marked, in_phase};
-ghost use Rattle.nat_tables.specs.Idling.{IsBusyUntil};
+ghost use Rattle.nat_tables.specs.Idling.{IsLiveUntil};
 
 use crate::{Endpoint, Phase, Segment};
+use packet_headers::TCP;
 
 /// Idle TCP mappings are kept for 2 hours and 4 minutes (RFC 5382, REQ-5), in microseconds.
 const TCP_TIMER: u64 = 7_440_000_000;
@@ -19,7 +20,11 @@ fn protocol_timer(protocol: u8) -> u64
     ensures timer { result ≡ protocol_timer protocol }
     ensures some { 1 ≤ result }
 {
-    if protocol == 6 { TCP_TIMER } else { UDP_TIMER }
+    if protocol == TCP {
+        TCP_TIMER
+    } else {
+        UDP_TIMER
+    }
 }
 
 impl Phase {
@@ -104,7 +109,7 @@ impl Slot {
     }
 
     /// The last time at which this mapping of the endpoint is not past, of those that there are.
-    fn used_until(&self, key: &Endpoint) -> u64
+    fn past_after(&self, key: &Endpoint) -> u64
         ensures used { result < self.now.last + timer key.now.protocol self.now.phase }
         ensures last { (now : ℕ) → now < 2 ^ 64
             → now < self.now.last + timer key.now.protocol self.now.phase → now ≤ result }
@@ -112,16 +117,16 @@ impl Slot {
         self.last.saturating_add(self.phase.timer(key.protocol) - 1)
     }
 
-    /// The last time at which this mapping of the endpoint is not idle, of those that there are.
-    pub(crate) fn busy_until(&self, key: &Endpoint) -> u64
-        ensures busy { IsBusyUntil result (Some (key.now, self.now)) }
+    /// The last time at which this mapping of the endpoint is live, of those that there are.
+    pub(crate) fn live_until(&self, key: &Endpoint) -> u64
+        ensures live { IsLiveUntil result (Some (key.now, self.now)) }
         ensures last { (now : ℕ) → now < 2 ^ 64 → is_idle now (key.now, self.now) ≡ false
             → now ≤ result }
     {
         if self.phase.is_kept() {
             return u64::MAX;
         }
-        self.used_until(key)
+        self.past_after(key)
     }
 
     /// The mapping after a use. Its last use does not go back where time does.

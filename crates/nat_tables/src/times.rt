@@ -15,7 +15,8 @@ enum Pairs {
     Of(Box<Times>),
 }
 
-/// Times, of which the first one before another time is found in as many steps as their number can be halved.
+/// Times, of which the first one before another time, from an index on, is found in as many steps as their number can
+/// be halved.
 /// Contracts see their list.
 #[cycle(times)]
 #[derive(Debug, Drop)]
@@ -130,18 +131,18 @@ impl Times {
         }
     }
 
-    /// The index of the first time before this one. None exactly where there is none.
-    pub(crate) fn first_before(&self, now: u64) -> Option<usize>
-        ensures { MatchOption result (AreFrom now self.now) (λ at. IsFirstBefore now self.now at) }
+    /// The index of the first time before this one, from an index on. None exactly where there is none.
+    pub(crate) fn first_before(&self, start: usize, now: u64) -> Option<usize>
+        ensures { MatchOption result (AreFrom start now self.now)
+            (λ at. IsFirstBefore start now self.now at) }
     {
+        if time_at(&self.times, start) < now {
+            return Some(start);
+        }
         let Pairs::Of(pairs) = &self.pairs else {
-            return if time_at(&self.times, 0) < now {
-                Some(0)
-            } else {
-                None
-            };
+            return None;
         };
-        match pairs.first_before(now) {
+        match pairs.first_before(start / 2 + start % 2, now) {
             Some(pair) => Some(first_of(&self.times, pair, now)),
             None => None,
         }

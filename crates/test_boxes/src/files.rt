@@ -15,17 +15,17 @@ fn settings_of(kind: &BoxKind) -> [u64; 6] {
         BoxKind::Count(_) => [0; 6],
         BoxKind::Monitor(monitor) => [u64::from(monitor.program.shards), 0, 0, 0, 0, 0],
         BoxKind::Nat(nat) => [
-            u64::from(nat.program.shards),
-            u64::from(nat.program.inside),
-            u64::from(nat.program.length),
-            u64::from(nat.program.outside),
-            u64::from(nat.program.low),
-            u64::from(nat.program.high),
+            u64::from(nat.program.settings.shards),
+            u64::from(nat.program.settings.inside),
+            u64::from(nat.program.settings.length),
+            u64::from(nat.program.settings.outside),
+            u64::from(nat.program.settings.low),
+            u64::from(nat.program.settings.high),
         ],
         BoxKind::Balancer(balancer) => [
-            u64::from(balancer.program.shards),
-            u64::from(balancer.program.address),
-            u64::from(balancer.program.port),
+            u64::from(balancer.program.settings.shards),
+            u64::from(balancer.program.settings.address),
+            u64::from(balancer.program.settings.port),
             0,
             0,
             0,
@@ -38,7 +38,7 @@ fn has_backends(kind: &BoxKind, wanted: &[(u32, u16)]) -> bool {
     let BoxKind::Balancer(balancer) = kind else {
         return wanted.is_empty();
     };
-    let backends = balancer.program.backends.as_slice();
+    let backends = balancer.program.settings.backends.as_slice();
     for (backend, (address, port)) in backends.iter().zip(wanted) {
         if backend.address != *address || backend.port != *port {
             return false;

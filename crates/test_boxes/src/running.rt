@@ -5,7 +5,7 @@ ghost use Rattle.master_core.specs.Mastered.{value_of};
 use access_log::Turn;
 use box_program::Program;
 use master_core::{Master, Stepped};
-use nat_box::NatBox;
+use nat_box::{NatBox, NatSettings};
 use plain_text::{Bytes, NoMemory, Packet};
 use sample_frames::{OTHER_QUERY, QUERY};
 use std::alloc::Global;
@@ -13,7 +13,7 @@ use std::alloc::Global;
 /// The box of the examples: the inside network is 10.0.0.0/8, the outside address 203.0.113.1, and the outside ports
 /// 39276 to 39279.
 pub fn four_ports() -> NatBox {
-    NatBox::new(1, 0x0a00_0000, 8, 0xcb00_7101, 39_276, 39_279)
+    NatBox::new(NatSettings::basic(1, 0x0a00_0000, 8, 0xcb00_7101, 39_276, 39_279))
 }
 
 /// A packet of these captured bytes, all that it had on the wire.

@@ -10,7 +10,7 @@ use crate::weaving::woven;
 use box_program::Program;
 use master_core::Woven;
 use monitor_box::MonitorBox;
-use nat_box::NatBox;
+use nat_box::{NatBox, NatSettings};
 use plain_text::NoMemory;
 use replay_guide::Guide;
 use sample_frames::{NEXT_QUERY, OTHER_QUERY, QUERY};
@@ -113,7 +113,14 @@ fn followed_answers_and_then_free_ones(rt: HostRuntime) -> Result<(), Fail> {
     };
     let frames: [&[u8]; 2] = [&QUERY, &NEXT_QUERY];
     for tables in [1, 4] {
-        let program = NatBox::new(tables, 0x0a00_0000, 8, 0xcb00_7101, 39_276, 40_299);
+        let program = NatBox::new(NatSettings::basic(
+            tables,
+            0x0a00_0000,
+            8,
+            0xcb00_7101,
+            39_276,
+            40_299,
+        ));
         let right = race_again(&rt, rt.alloc(), &program, frames, 2, &wanted)?;
         assert!(rt; right, "{tables}");
     }

@@ -15,7 +15,7 @@ use crate::steps::{Did, did_of};
 use box_program::Program;
 use master_core::{Counts, Master};
 use monitor_box::MonitorBox;
-use nat_box::NatBox;
+use nat_box::{NatBox, NatSettings};
 use plain_text::NoMemory;
 use replay_guide::Guide;
 use sample_frames::{NEXT_QUERY, OTHER_QUERY, QUERY};
@@ -209,7 +209,14 @@ fn two_threads_race_over_the_nat(rt: HostRuntime) -> Result<(), Fail> {
     let shown = (1, "tcp 1024 udp 1022");
     let frames: [&[u8]; 2] = [&QUERY, &NEXT_QUERY];
     for tables in [1, 4] {
-        let program = NatBox::new(tables, 0x0a00_0000, 8, 0xcb00_7101, 39_276, 40_299);
+        let program = NatBox::new(NatSettings::basic(
+            tables,
+            0x0a00_0000,
+            8,
+            0xcb00_7101,
+            39_276,
+            40_299,
+        ));
         let right = raced(&rt, alloc, &program, frames, 16_667, &wanted, shown)?;
         assert!(rt; right, "{tables}");
     }

@@ -1,10 +1,10 @@
 //! The boxes of the program.
 use crate::agreeing::released_by;
 use crate::racing::Stage;
-use balancer_box::{Backend, Backends, BalancerBox};
+use balancer_box::{Backend, BalancerBox, BalancerSettings, no_backends};
 use box_program::CountBox;
 use monitor_box::MonitorBox;
-use nat_box::NatBox;
+use nat_box::{NatBox, NatSettings};
 use std::sync::Wait;
 use std::thread::Threads;
 
@@ -27,12 +27,12 @@ pub const ALL: [(Which, u64); 4] = [
 
 /// A NAT in front of 10.0.0.0/8, with two tables of each kind. Its ports are none to which a packet goes from outside.
 pub fn nat() -> NatBox {
-    NatBox::new(2, 0x0a00_0000, 8, 0xcb00_7101, 40_000, 41_023)
+    NatBox::new(NatSettings::basic(2, 0x0a00_0000, 8, 0xcb00_7101, 40_000, 41_023))
 }
 
 /// A balancer before the server that the queries go to, with two backends.
 fn balancer() -> BalancerBox {
-    let mut backends = Backends::new();
+    let mut backends = no_backends();
     backends.push(Backend {
         address: 0x0a01_0001,
         port: 53,
@@ -41,7 +41,13 @@ fn balancer() -> BalancerBox {
         address: 0x0a01_0002,
         port: 53,
     });
-    BalancerBox::new(2, 0xc633_6407, 53, backends)
+    BalancerBox::new(BalancerSettings {
+        shards: 2,
+        address: 0xc633_6407,
+        port: 53,
+        backends,
+        closing: None,
+    })
 }
 
 /// How many outputs a box releases by these stages, where all is as it is to be.

@@ -1,7 +1,7 @@
 use super::files::read_again;
-use balancer_box::BalancerBox;
+use balancer_box::BalancerSettings;
 use box_conf::{BoxKind, read_box};
-use nat_box::NatBox;
+use nat_box::NatSettings;
 use plain_text::{Text, lines, words};
 use std::io;
 use std::rt::Files;
@@ -49,8 +49,8 @@ pub fn warn<R: AllocGlobal + Files + Eprint>(rt: &R, name: &Text) -> io::Result<
     };
     let doubt = match &conf.kind {
         BoxKind::Count(_) | BoxKind::Monitor(_) => None,
-        BoxKind::Nat(nat) => doubt_of_nat(&nat.program),
-        BoxKind::Balancer(balancer) => doubt_of_balancer(&balancer.program),
+        BoxKind::Nat(nat) => doubt_of_nat(&nat.program.settings),
+        BoxKind::Balancer(balancer) => doubt_of_balancer(&balancer.program.settings),
     };
     match doubt {
         Some(doubt) => {
@@ -62,7 +62,7 @@ pub fn warn<R: AllocGlobal + Files + Eprint>(rt: &R, name: &Text) -> io::Result<
 }
 
 /// A packet to the outside address would come from inside and go inside.
-fn doubt_of_nat(nat: &NatBox) -> Option<&'static str> {
+fn doubt_of_nat(nat: &NatSettings) -> Option<&'static str> {
     let apart = nat.inside ^ nat.outside;
     if nat.length <= 32 && u64::from(apart) >> (32 - nat.length) == 0 {
         Some("the outside address is in the inside network")
@@ -72,7 +72,7 @@ fn doubt_of_nat(nat: &NatBox) -> Option<&'static str> {
 }
 
 /// Clients would be sent to where they came, or to where nobody can listen.
-fn doubt_of_balancer(balancer: &BalancerBox) -> Option<&'static str> {
+fn doubt_of_balancer(balancer: &BalancerSettings) -> Option<&'static str> {
     let backends = balancer.backends.as_slice();
     if backends.iter().any(|backend| backend.address == balancer.address
         && backend.port == balancer.port)

@@ -1,4 +1,4 @@
-use Rattle.balancer_runs.proofs.BusyConnections.{answers_before_idle}
+use Rattle.balancer_runs.proofs.LiveConnections.{answers_before_idle}
 use Rattle.balancer_runs.proofs.laws.answers_come_before_idle.Goals as goal
 
 pub returns : goal.returns

@@ -1,5 +1,6 @@
-use Rattle.balancer_runs.proofs.Following.{followed_by_the_line, none_followed_without_it, touches_as_before}
-use Rattle.balancer_runs.proofs.Following.{begins_as_before, sides_follow}
+use Rattle.balancer_runs.proofs.Followed.{followed_by_the_line, none_followed_without_it, touches_as_before}
+use Rattle.balancer_runs.proofs.Followed.{begins_as_before}
+use Rattle.balancer_runs.proofs.Following.{sides_follow}
 use Rattle.balancer_runs.proofs.laws.connections_are_followed_by_the_line.Goals as goal
 
 pub returns-clause-by_the_line : goal.returns-clause-by_the_line

@@ -7,10 +7,10 @@ use Rattle.job_commands.specs.Words.{trace_names_of}
 use Rattle.job_commands.proofs.Outcomes.{kept, run_words, run_reads, run_refuses, run_fault, not_of_run}
 use Rattle.job_commands.proofs.Stages.{quiet_words, quiet_writing, quiet_done}
 use Rattle.job_commands.proofs.Failing.{failed_since}
-use Rattle.job_top.specs.Trace.{drop_register}
 use Rattle.job_top.proofs.Traced.{order_traced, stop_since, trace_done, trace_judged, trace_limit, trace_not_at_inputs}
 use Rattle.job_top.proofs.Traced.{trace_refused, traced_since}
 use Rattle.job_top.proofs.trace.trace.Goals as goal
+use Rattle.box_conf.specs.Kinds.{drop_register}
 
 -- its inputs are accepted
 

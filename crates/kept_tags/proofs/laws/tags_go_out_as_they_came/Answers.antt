@@ -12,12 +12,12 @@ use Rattle.kept_tags.proofs.laws.tags_go_out_as_they_came.Goals as goal
 
 pub returns-clause-nat : goal.returns-clause-nat
 returns-clause-nat c = λ b p l tagged.
-    addresses_and_tag_stay (nat.box_meaning b) p l tagged (nat_leaves (nat.settings_of b) (behind_tag true p) l)
+    addresses_and_tag_stay (nat.box_meaning b) p l tagged (nat_leaves b.settings (behind_tag true p) l)
 
 pub returns-clause-balancer : goal.returns-clause-balancer
 returns-clause-balancer c = λ b p l tagged.
     addresses_and_tag_stay (balancer.box_meaning b) p l tagged
-    (balancer_leaves (balancer.settings_of b) (behind_tag true p) l)
+    (balancer_leaves b.settings (behind_tag true p) l)
 
 pub returns-clause-monitor : goal.returns-clause-monitor
 returns-clause-monitor c = λ b p l tagged. addresses_and_tag_stay (monitor.box_meaning b) p l tagged refl

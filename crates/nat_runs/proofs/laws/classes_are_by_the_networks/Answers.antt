@@ -1,4 +1,5 @@
-use Rattle.nat_runs.proofs.Networks.{sent_by_class, counted_by_class, mappings_are_inside}
+use Rattle.nat_runs.proofs.NetworkClasses.{counted_by_class}
+use Rattle.nat_runs.proofs.Networks.{sent_by_class, mappings_are_inside}
 use Rattle.nat_runs.proofs.laws.classes_are_by_the_networks.Goals as goal
 
 pub returns-clause-sent : goal.returns-clause-sent

@@ -2,4 +2,4 @@ use Rattle.balancer_box.proofs.BoxLemmas.{box_is}
 use Rattle.balancer_box.proofs.balancer.BalancerBox.new.Goals as goal
 
 pub returns : goal.returns
-returns c = box_is c.args.shards c.args.address c.args.port c.args.backends _ _ _ _
+returns c = box_is c.args.settings _ _ _ _

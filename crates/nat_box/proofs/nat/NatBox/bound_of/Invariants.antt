@@ -1,10 +1,9 @@
 use Rattle.std.proofs.Common.{◌≡◌, [], drop}
 use Rattle.nat_box.specs.Starting.{bound_all}
-use Rattle.nat_box.specs.Boxes.{settings_of}
 use Rattle.nat_box.proofs.nat.NatBox.bound_of.Given as goal
 
 -- the table so far, and what is left
 abbrev pub invariant-loop-port : goal.invariant-loop-port
 invariant-loop-port l =
-    bound_all (settings_of l.self) l.var (drop l.port-index l.ports) l.table
-    ≡ bound_all (settings_of l.self) l.var l.ports []
+    bound_all l.self.settings l.var (drop l.port-index l.ports) l.table
+    ≡ bound_all l.self.settings l.var l.ports []

@@ -1,13 +1,12 @@
 use Rattle.std.proofs.Common.{◌∙◌, ap, []}
 use Rattle.nat_box.specs.Statics.{kept}
 use Rattle.nat_box.specs.Starting.{bound_all}
-use Rattle.nat_box.specs.Boxes.{settings_of}
 use Rattle.nat_box.proofs.Starting.{start_bound}
 use Rattle.nat_box.proofs.nat.NatBox.fresh_bound.Goals as goal
 
 pub returns : goal.returns
 returns c =
     c.in_ok-table.ensures
-    ∙ ap (λ ports. bound_all (settings_of c.args.self.now) c.args.var ports [])
+    ∙ ap (λ ports. bound_all c.args.self.now.settings c.args.var ports [])
     (c.as_slice-2.ensures.value ∙ c.in_ok-ports.ensures ∙ ap kept c.as_slice.ensures)
-    ∙ start_bound (settings_of c.args.self.now) c.args.var c.args.self.now.statics
+    ∙ start_bound c.args.self.now.settings c.args.var c.args.self.now.settings.statics

@@ -4,7 +4,7 @@ use Rattle.nat_tables.specs.Rows.{present}
 use Rattle.nat_tables.proofs.TableLemmas.{slot_found_by}
 use Rattle.nat_tables.proofs.RowLemmas.{present_more}
 use Rattle.nat_tables.proofs.RowWords.{derived, absent_unfound}
-use Rattle.nat_tables.proofs.IdleLemmas.{busy_pushed}
+use Rattle.nat_tables.proofs.IdleLemmas.{live_pushed}
 use Rattle.nat_tables.proofs.forward.Forward.append.Goals as goal
 
 pub push-requires : goal.push-requires
@@ -17,8 +17,8 @@ push-requires c =
 pub invariant_of-self-2 : goal.invariant_of-self-2
 invariant_of-self-2 c =
     rw (c.set.ensures, c.in_ok-push.ensures.ok)
-    (busy_pushed _ _ c.rows-at.result c.busy_until.result c.args.key.now c.args.slot c.in_ok-make_room.ensures.busy
-    c.in_ok-make_room.ensures.room c.rows-at.ensures.count c.busy_until.ensures.busy)
+    (live_pushed _ _ c.rows-at.result c.live_until.result c.args.key.now c.args.slot c.in_ok-make_room.ensures.live
+    c.in_ok-make_room.ensures.room c.rows-at.ensures.count c.live_until.ensures.live)
 
 pub returns-clause-ok : goal.returns-clause-ok
 returns-clause-ok c =

@@ -1,11 +1,11 @@
 use Rattle.std.proofs.Common.{◌≡◌, ◌∙◌, sym, refl, subst, Some, arith}
 use Rattle.nat_tables.specs.declared.entries.Endpoint.{Endpoint}
 use Rattle.nat_tables.specs.Forwards.{slot_of, marked}
-use Rattle.nat_tables.specs.Idling.{IsBusyUntil}
+use Rattle.nat_tables.specs.Idling.{IsLiveUntil}
 use Rattle.nat_tables.specs.Rows.{present}
 use Rattle.nat_tables.proofs.TableLemmas.{noted_by, slot_found_by, same_by}
 use Rattle.nat_tables.proofs.RowLemmas.{row_inside}
-use Rattle.nat_tables.proofs.IdleLemmas.{busy_marked, unmarked}
+use Rattle.nat_tables.proofs.IdleLemmas.{live_marked, unmarked}
 use Rattle.nat_tables.proofs.RowWords.{derived, stands_inserted, stands_lookup, absent_lookup}
 use Rattle.nat_tables.proofs.forward.Forward.mark.Goals as goal
 
@@ -19,11 +19,11 @@ pub invariant_of-self : goal.invariant_of-self
 invariant_of-self c =
     let stands = c.in-Some.ensures in
     let own : c.args.key.now ≡ stands.own = same_by derived (λ a b. refl) c.args.key.now stands.own stands.same in
-    let busy : IsBusyUntil c.busy_until.result (Some (c.args.key.now, c.marked-marked.result)) =
-    c.busy_until.ensures.busy in
+    let live : IsLiveUntil c.live_until.result (Some (c.args.key.now, c.marked-marked.result)) =
+    c.live_until.ensures.live in
     rw (c.set.ensures, c.put.ensures (stands.own, c.in-Some.slot) stands.row)
-    (busy_marked _ _ c.in-Some.at _ (Some (stands.own, c.marked-marked.result)) c.self.invariant
-    (subst (λ (x : Endpoint). IsBusyUntil c.busy_until.result (Some (x, c.marked-marked.result))) own busy))
+    (live_marked _ _ c.in-Some.at _ (Some (stands.own, c.marked-marked.result)) c.self.invariant
+    (subst (λ (x : Endpoint). IsLiveUntil c.live_until.result (Some (x, c.marked-marked.result))) own live))
 
 pub returns-in-Some : goal.returns-in-Some
 returns-in-Some c =

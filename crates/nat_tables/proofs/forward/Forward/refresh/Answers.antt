@@ -2,7 +2,7 @@ use Rattle.std.proofs.Common.{◌≡◌, ◌∙◌, sym, refl, Some}
 use Rattle.nat_tables.specs.Forwards.{slot_of, refreshed}
 use Rattle.nat_tables.specs.Rows.{present}
 use Rattle.nat_tables.proofs.TableLemmas.{used_by, slot_found_by}
-use Rattle.nat_tables.proofs.IdleLemmas.{busy_used, unused}
+use Rattle.nat_tables.proofs.IdleLemmas.{live_refreshed, unused}
 use Rattle.nat_tables.proofs.RowWords.{derived, stands_inserted, stands_lookup, absent_lookup}
 use Rattle.nat_tables.proofs.forward.Forward.refresh.Goals as goal
 
@@ -10,7 +10,7 @@ pub invariant_of-self : goal.invariant_of-self
 invariant_of-self c =
     let stands = c.in-Some.ensures in
     rw (c.put.ensures (stands.own, c.in-Some.slot) stands.row, c.refreshed.ensures)
-    (busy_used _ _ c.in-Some.at c.args.now stands.own c.in-Some.slot c.self.invariant stands.row)
+    (live_refreshed _ _ c.in-Some.at c.args.now stands.own c.in-Some.slot c.self.invariant stands.row)
 
 pub returns-in-Some : goal.returns-in-Some
 returns-in-Some c =

@@ -1,6 +1,6 @@
--- An answer goes out by a connection that is not idle.
-use Rattle.std.proofs.Common.{◌≡◌, ◌≢◌, ℕ, ◌+◌, ◌<◌, Bool, true, false, List, [], ◌∷◌, refl, sym, ap, ◌∙◌, subst}
-use Rattle.std.proofs.Common.{◌⊎◌, inl, inr, Option, Some, None}
+-- An answer goes out by a live connection.
+use Rattle.std.proofs.Common.{◌≡◌, ◌≢◌, ℕ, ◌+◌, ◌<◌, Bool, true, false, List, [], ◌∷◌, refl, sym, ap, ◌∙◌, subst, ◌⊎◌}
+use Rattle.std.proofs.Common.{inl, inr, Option, Some, None}
 use Rattle.std.specs.Prelude.{◌==◌, not}
 use Rattle.std.proofs.lemmas.Bool.{eqb-true}
 use Rattle.plain_text.specs.declared.packet.Packet.{Packet}
@@ -20,16 +20,18 @@ use Rattle.balancer_box.specs.declared.place.Noted.{Noted}
 use Rattle.balancer_box.specs.declared.value.BalancerValue.{BalancerValue}
 use Rattle.balancer_box.specs.declared.value.BalancerValue.TheVariants.{Dropped, Loaded, Connected}
 use Rattle.balancer_box.specs.Places.{place_numbered}
-use Rattle.balancer_box.specs.Balancer.{Settings, is_virtual, backend_at, noted_by, balancer_meaning, HasPhase, Fits}
-use Rattle.balancer_box.specs.Lawful.{AreSettings, var_of, touches_it, below_all, balancer_lawful}
+use Rattle.balancer_box.specs.Settings.{Settings, AreSettings}
+use Rattle.balancer_box.specs.Balancer.{is_virtual, backend_at, noted_by, balancer_meaning, HasPhase, Fits}
+use Rattle.balancer_box.specs.Ranks.{var_of, touches_it, below_all}
+use Rattle.balancer_box.specs.Lawful.{balancer_lawful}
 use Rattle.balancer_box.specs.Emissions.{Trail, newer, trail_by, trail_of, Lived, IsSentOnOf}
 use Rattle.balancer_box.proofs.Emissions.{emissions_follow}
 use Rattle.balancer_box.proofs.Making.{Made, made}
-use Rattle.balancer_runs.specs.Idle.{IsBusyAt}
-use Rattle.balancer_runs.specs.Answering.{MetBusy, AnswersComeBeforeIdle}
-use Rattle.balancer_runs.proofs.Tables.{busy_is}
-use Rattle.balancer_runs.proofs.Following.{connection_phase}
-use Rattle.balancer_runs.proofs.Knowing.{both}
+use Rattle.balancer_runs.specs.Idle.{IsLiveAt}
+use Rattle.balancer_runs.specs.Answering.{MetLive, AnswersComeBeforeIdle}
+use Rattle.balancer_runs.proofs.Tables.{live_is}
+use Rattle.balancer_runs.proofs.Followed.{connection_phase}
+use Rattle.balancer_runs.proofs.Known.{both}
 
 -- The table that a packet's moves found has the phases of connections
 
@@ -90,17 +92,17 @@ not_true : (b : Bool) → not b ≡ true → b ≡ false
 not_true true e = absurd (cc)
 not_true false e = refl
 
-lives_busy : (closing : Option ℕ) (client : Endpoint) (backend now : ℕ) (o : Option Slot)
+lives_is_live : (closing : Option ℕ) (client : Endpoint) (backend now : ℕ) (o : Option Slot)
     → ((slot : Slot) → o ≡ Some slot → HasPhase closing client.protocol slot.phase)
     → lives_at client backend now o ≡ true
-    → (slot : Slot) × (o ≡ Some slot) × (slot.port ≡ backend) × IsBusyAt now client slot
-lives_busy closing client backend now None has is = absurd (cc)
-lives_busy closing client backend now (Some slot) has is =
+    → (slot : Slot) × (o ≡ Some slot) × (slot.port ≡ backend) × IsLiveAt now client slot
+lives_is_live closing client backend now None has is = absurd (cc)
+lives_is_live closing client backend now (Some slot) has is =
     let k = both (slot.port == backend) (not (is_idle now (client, slot))) is in (
       slot,
       refl,
       eqb-true _ _ k.0,
-      busy_is closing now client slot (has slot refl) (not_true (is_idle now (client, slot)) k.1),
+      live_is closing now client slot (has slot refl) (not_true (is_idle now (client, slot)) k.1),
     )
 
 pub answers_before_idle : AnswersComeBeforeIdle
@@ -112,15 +114,15 @@ answers_before_idle s threads inputs x earlier o p flow is bytes h sent input se
     r = trail_of s x.thread earlier
 
     lived : (number : ℕ) → backend_at s.backends flow.source flow.source_port ≡ Some number
-        → Lived r (dest_of flow) number → MetBusy s flow r
+        → Lived r (dest_of flow) number → MetLive s flow r
     lived number at (es, now, found, clock, lives) =
         let have : HavePhases s (Some es) =
         subst (HavePhases s) found (run_phases s threads inputs earlier is h.1 x.thread) in
         let client : Endpoint = dest_of flow in
-        let k = lives_busy s.closing client number now (slot_of client es) (have client) lives in
+        let k = lives_is_live s.closing client number now (slot_of client es) (have client) lives in
         (es, now, k.0, found, clock, k.1, at ∙ ap Some (sym k.2), k.3)
 
-    by : IsSentOnOf s r o.packet.bytes (Some p) → MetBusy s flow r
+    by : IsSentOnOf s r o.packet.bytes (Some p) → MetLive s flow r
     by (other, there, inl k) =
         let same : other ≡ flow = cc in
         let on : is_virtual s flow.dest flow.dest_port ≡ true =
