@@ -7,7 +7,7 @@ use Rattle.world_told.specs.Honest.{IsHonest}
 use Rattle.job_commands.specs.declared.status.Status.{Status}
 use Rattle.job_commands.specs.declared.status.Status.TheVariants.{Done, BadWords, WriteFault, NoMemory}
 use Rattle.job_commands.specs.Status.{exit_code_of}
-use Rattle.job_commands.specs.Words.{asked}
+use Rattle.job_commands.specs.Words.{asked, live_names}
 use Rattle.job_top.specs.Answers.{Answers, AnswersBytes}
 use Rattle.release_taps.specs.Split.{AsksForTaps, BeginsWithTap, behind_pairs, released_name}
 use Rattle.release_taps.specs.declared.seat.Seat.{Seat}
@@ -22,6 +22,12 @@ use Rattle.command_words.specs.Printing.{asked_text}
 use Rattle.command_words.specs.Watching.{Watches, begins_watch, watch_status}
 use Rattle.command_words.specs.declared.clashes.Clash.{Clash}
 use Rattle.command_words.specs.declared.named_file.NamedFile.{NamedFile}
+
+-- The words ask for no rounds of racing threads, that is not for `live`: neither they, where they ask for no tap, nor those
+-- after the taps.
+pub record AsksNoRounds (words : List (List ℕ)) : Type 0 where
+  pub plain : ¬ BeginsWithTap words → live_names words ≡ None
+  pub tapped : (pairs : ℕ) → AsksForTaps words pairs → live_names (behind_pairs pairs words) ≡ None
 
 -- the words ask for no tap, and not for a capture to be watched
 pub record AsksPlainly (words : List (List ℕ)) : Type 0 where

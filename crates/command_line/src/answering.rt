@@ -2,20 +2,18 @@ ghost use Rattle.std.specs.Prelude.{◌≡◌, ◌<◌, ◌≤◌, ◌+◌, ◌^
 ghost use Rattle.world_io.specs.Stream.{Rose};
 ghost use Rattle.input_files.specs.Files.{OpensAll, OpensFirst};
 ghost use Rattle.job_commands.specs.Status.{IsRefusal};
-ghost use Rattle.job_commands.specs.Words.{asked, IfAsks, inputs_of};
+ghost use Rattle.job_commands.specs.Words.{asked, IfAsks, inputs_of, live_names};
 ghost use Rattle.command_line.specs.Performing.{Performs};
 ghost use Rattle.command_words.specs.Printing.{Prints, asked_text};
 ghost use Rattle.world_io.specs.World.{Start, KeepsOrder, WritingFailed};
 
 use command_words::{Request, help, read_request, version};
 use job_commands::Status;
-use job_top::ftmb;
+use job_top::serial;
 use output_files::{OutputError, report};
 use plain_text::Text;
-use std::sync::Wait;
-use std::thread::Threads;
-use var_locks::Gate;
-use world_io::{Clock, World};
+use std::alloc::Global;
+use world_io::World;
 
 /// Prints a text where the report goes.
 #[tactic(auto, using(crate::proofs::Printed::prints_prefix, crate::proofs::Printed::prints_whole))]
@@ -39,17 +37,12 @@ fn print<W: World>(world: &mut W, text: &str) -> Status
 }
 
 /// Does what the words ask for: prints the help or the version where the one and only word is
-/// `--help` or `--version`, and else runs the command that they name.
-pub fn perform<W: World, C: Clock + Sync, G: Gate + Sync, R: AllocGlobal + Threads + Wait + Sync>(
-    rt: &R,
-    words: &[Text],
-    world: &mut W,
-    clock: &C,
-    gate: &G,
-) -> Status
+/// `--help` or `--version`, and else runs the command that they name, which is not `live`.
+pub fn perform<W: World>(alloc: Global, words: &[Text], world: &mut W) -> Status
     requires room { (W.ledger world.old).given < 2 ^ 31 }
+    requires no_rounds { live_names words.now ≡ None }
     ensures performs { (p : Start) → W.honest p world.new → Performs (W.healthy world.old)
-        (C.may clock.now) words.now result (W.shows p world.old) (W.shows p world.new) }
+        (λ t. ⊥) words.now result (W.shows p world.old) (W.shows p world.new) }
     ensures printed { IfSome (asked_text words.now) (λ text. (result ≡ Status.Done)
         ⊎ ((result ≡ Status.WriteFault) ⊎ (result ≡ Status.NoMemory))) }
     ensures bad_words { result ≡ Status.BadWords
@@ -76,6 +69,6 @@ pub fn perform<W: World, C: Clock + Sync, G: Gate + Sync, R: AllocGlobal + Threa
     match read_request(words) {
         Request::Help => print(world, help()),
         Request::Version => print(world, version()),
-        Request::Command => ftmb(rt, words, world, clock, gate),
+        Request::Command => serial(alloc, words, world),
     }
 }

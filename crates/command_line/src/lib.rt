@@ -5,15 +5,18 @@
 #![tactic(auto)]
 
 mod answering;
+mod choosing;
 mod ending;
 mod program;
+mod racing;
 mod running;
 
 pub use answering::perform;
+pub use choosing::run_words;
 pub use command_words::{
     Request, Status, StatusText, WatchedTo, asks_watch, help, one_file, read_request, read_words,
     tell_more, version, watch_words,
 };
 pub use ending::exit_of;
 pub use program::{Ended, run_arguments, run_program};
-pub use running::{Ran, RealTap, SilentWorld, run_words};
+pub use running::{Ran, RealTap, SilentWorld};

@@ -1,9 +1,10 @@
 ghost use Rattle.std.specs.Prelude.{◌≡◌, ◌<◌, ◌≤◌, ◌*◌, ◌^◌, ◌⊎◌, ℕ, [], IfOk, IfErr, IfSome, None};
 ghost use Rattle.std.specs.Prelude.{true};
 ghost use Rattle.std.specs.Prelude.{false, length};
-ghost use Rattle.job_commands.specs.Words.{asked};
+ghost use Rattle.job_commands.specs.Words.{asked, live_names};
 ghost use Rattle.command_line.specs.Performing.{PerformsIn, WatchesIn};
-ghost use Rattle.command_line.specs.Running.{AreNamed, AsksToWatch, HasRefused, IsNotBegun, Runs};
+ghost use Rattle.command_line.specs.Running.{AreNamed, AsksNoRounds, AsksToWatch, HasRefused};
+ghost use Rattle.command_line.specs.Running.{IsNotBegun, Runs};
 ghost use Rattle.command_line.specs.Running.{TapsMirror};
 ghost use Rattle.command_words.specs.Printing.{asked_text};
 ghost use Rattle.command_words.specs.Watching.{PrintsLines, begins_watch};
@@ -21,11 +22,9 @@ use job_commands::Status;
 use job_top::tapped;
 use plain_text::Text;
 use release_taps::{Seat, Split, split_taps};
+use std::alloc::Global;
 use std::rt::Files;
-use std::sync::Wait;
-use std::thread::Threads;
-use var_locks::Gate;
-use world_io::{Clock, OpenFault, World};
+use world_io::{OpenFault, World};
 use world_real::{RealWorld, Silence};
 use world_told::ToldTap;
 
@@ -49,32 +48,19 @@ pub struct Ran<W, V, T, X> {
     pub refused: Option<X>,
 }
 
-/// Does what the words ask for over the files of a world: performs them; or, where pairs
-/// `tap NAME` stand in front, runs what stands after them and mirrors the released capture under
-/// each name; or, where the first word is `watch`, prints a line for each packet of a window on the
-/// report of the other world.
-///
-/// It ends with `BadWords` only where the words ask for nothing that it does, and with `WriteFault` or
-/// `ReadFault` only where a world counted a fault.
-pub fn run_words<
-    'a,
-    W: World + Drop,
-    V: World + Drop,
-    C: Clock + Sync,
-    G: Gate + Sync,
-    R: AllocGlobal + Files + Print + Threads + Wait + Sync,
->(
+/// Does what the words ask for, where that is not `live`, with all that `run_words` promises. It takes
+/// nothing that may wait, so it is proved to return.
+pub(crate) fn run_serial<'a, W: World + Drop, V: World + Drop, R: AllocGlobal + Files + Print>(
     rt: &'a R,
     words: &[Text],
     world: W,
     out: V,
-    clock: &C,
-    gate: &G,
 ) -> Ran<W, V, RealTap<'a, R>, SilentWorld<'a, R>>
+    requires no_rounds { AsksNoRounds words.now }
     requires room { (W.ledger world).given < 2 ^ 31 }
     requires new_world { (file : ℕ) → (W.ledger world).created file ≡ false }
     requires fresh { HasPrinted V.honest V.shows [] out }
-    ensures runs { Runs W.honest W.shows W.ledger W.healthy (C.may clock.now)
+    ensures runs { Runs W.honest W.shows W.ledger W.healthy (λ t. ⊥)
         (λ w. (real_ledger w).write_faults) result.refused words.now result.status world
         result.world (V.ledger result.out) }
     ensures prints { AsksToWatch words.now
@@ -100,7 +86,7 @@ pub fn run_words<
         ⊎ HasRefused (λ w. (real_ledger w).write_faults) result.refused) }
 {
     match split_taps(words) {
-        Split::Plain => return run_plain(rt, words, world, out, clock, gate),
+        Split::Plain => return run_plain(rt.alloc(), words, world, out),
         Split::Bad => {
             return Ran {
                 status: Status::BadWords,
@@ -111,26 +97,24 @@ pub fn run_words<
             };
         }
         Split::Taps { pairs, .. } => {
-            return run_tapped(rt, words, pairs, world, out, clock, gate);
+            return run_tapped(rt, words, pairs, world, out);
         }
     }
 }
 
 /// Performs the words, or watches a capture. What is watched is printed through the world that is
 /// there for nothing else.
-fn run_plain<
-    T,
-    X,
-    W: World + Drop,
-    V: World + Drop,
-    C: Clock + Sync,
-    G: Gate + Sync,
-    R: AllocGlobal + Threads + Wait + Sync,
->(rt: &R, words: &[Text], world: W, out: V, clock: &C, gate: &G) -> Ran<W, V, T, X>
+fn run_plain<T, X, W: World + Drop, V: World + Drop>(
+    alloc: Global,
+    words: &[Text],
+    world: W,
+    out: V,
+) -> Ran<W, V, T, X>
+    requires no_rounds { live_names words.now ≡ None }
     requires room { (W.ledger world).given < 2 ^ 31 }
     requires fresh { HasPrinted V.honest V.shows [] out }
     ensures performs { begins_watch words.now ≡ false → PerformsIn W.honest W.shows W.ledger
-        W.healthy (C.may clock.now) words.now result.status world result.world }
+        W.healthy (λ t. ⊥) words.now result.status world result.world }
     ensures watches { begins_watch words.now ≡ true → WatchesIn W.honest W.shows W.ledger
         W.healthy words.now result.status world result.world (V.ledger result.out) }
     ensures prints { begins_watch words.now ≡ true → PrintsLines W.honest W.shows W.healthy
@@ -142,49 +126,41 @@ fn run_plain<
 {
     let mut world = world;
     if asks_watch(words) {
-        let watched = watch_words(rt.alloc(), words, &mut world, out);
+        let watched = watch_words(alloc, words, &mut world, out);
         return Ran {
             status: watched.status,
             world,
             out: watched.out,
-            taps: Vec::new(rt.alloc()),
+            taps: Vec::new(alloc),
             refused: None,
         };
     }
-    let status = perform(rt, words, &mut world, clock, gate);
+    let status = perform(alloc, words, &mut world);
     Ran {
         status,
         world,
         out,
-        taps: Vec::new(rt.alloc()),
+        taps: Vec::new(alloc),
         refused: None,
     }
 }
 
 /// Runs what stands after the pairs. Each tap writes to the file of its name, which is created
 /// before the command begins.
-fn run_tapped<
-    'a,
-    W: World + Drop,
-    V: World + Drop,
-    C: Clock + Sync,
-    G: Gate + Sync,
-    R: AllocGlobal + Files + Print + Threads + Wait + Sync,
->(
+fn run_tapped<'a, W: World + Drop, V: World + Drop, R: AllocGlobal + Files + Print>(
     rt: &'a R,
     words: &[Text],
     pairs: usize,
     world: W,
     out: V,
-    clock: &C,
-    gate: &G,
 ) -> Ran<W, V, RealTap<'a, R>, SilentWorld<'a, R>>
     requires asks { AsksForTaps words.now pairs }
+    requires no_rounds { live_names (behind_pairs pairs words.now) ≡ None }
     requires room { (W.ledger world).given < 2 ^ 31 }
     requires new_world { (file : ℕ) → (W.ledger world).created file ≡ false }
     ensures answers { IsNotBegun (λ w. (real_ledger w).write_faults) result.refused
         result.status world result.world ⊎ Answers W.honest W.shows W.ledger
-        W.healthy (C.may clock.now) (behind_pairs pairs words.now)
+        W.healthy (λ t. ⊥) (behind_pairs pairs words.now)
         result.status world result.world }
     ensures prints_nothing { result.out ≡ out }
     ensures orderly { KeepsOrder (W.ledger world) (W.ledger result.world) }
@@ -206,7 +182,7 @@ fn run_tapped<
             };
         }
     };
-    match tapped(rt, words, world, taps, clock, gate) {
+    match tapped(rt.alloc(), words, world, taps) {
         Ok(run) => Ran {
             status: run.status,
             world: run.rest.world,
@@ -226,7 +202,7 @@ fn run_tapped<
 
 /// The status where taps could not be created: of a write fault where a world refused a file, and
 /// else of want of memory.
-fn status_without<X>(refused: &Option<X>) -> Status
+pub(crate) fn status_without<X>(refused: &Option<X>) -> Status
     ensures refused { IfSome refused.now (λ _. result ≡ Status.WriteFault) }
     ensures memory { refused.now ≡ None → result ≡ Status.NoMemory }
 {
@@ -239,7 +215,7 @@ fn status_without<X>(refused: &Option<X>) -> Status
 /// A tap on a file for each name, in order, each in a world of its own; or the world that refused a
 /// file, or none where memory ran out.
 #[tactic(auto, using(crate::proofs::Runs::rose_some))]
-fn create_taps<'a, R: AllocGlobal + Files + Print>(
+pub(crate) fn create_taps<'a, R: AllocGlobal + Files + Print>(
     rt: &'a R,
     words: &[Text],
     pairs: usize,

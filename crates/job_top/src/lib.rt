@@ -8,10 +8,12 @@ mod hand;
 mod live;
 mod mirroring;
 mod picture;
+mod racing;
 mod resume;
 mod top;
 mod trace;
 
 pub use job_commands::{InputFault, Status};
 pub use mirroring::{TappedRun, tapped};
+pub use racing::race_tapped;
 pub use top::{ftmb, serial};

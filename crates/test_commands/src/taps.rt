@@ -3,7 +3,7 @@ ghost use Rattle.std.specs.Prelude.{◌≡◌, length, IfOk, OnOk};
 ghost use Rattle.release_taps.specs.Recorded.{AreUnused};
 
 use crate::commands::{Fault, add_fault, add_files};
-use job_top::{Status, TappedRun, tapped};
+use job_top::{Status, TappedRun, race_tapped};
 use plain_text::{NoMemory, Text};
 use release_taps::{MemoryTap, Shown, Split, Tap, split_taps};
 use sample_frames::{ONE_COUNTED, ONE_PACKET};
@@ -86,7 +86,7 @@ fn run_with_taps<R: AllocGlobal + Threads + Wait + Sync>(
     let words = words.as_slice();
     match split_taps(words) {
         Split::Taps { pairs, .. } if pairs == taps.len() => {
-            match tapped(rt, words, world, taps, &FixedClock(0), &OpenGate) {
+            match race_tapped(rt, words, world, taps, &FixedClock(0), &OpenGate) {
                 Ok(run) => Ok(Some(run)),
                 Err(_world) => Err(NoMemory),
             }

@@ -1,4 +1,4 @@
-use Rattle.std.proofs.Common.{◌≡◌, ap, sym, ◌∙◌, Some}
+use Rattle.std.proofs.Common.{◌≡◌, ℕ, ap, sym, ◌∙◌, Some}
 use Rattle.command_words.specs.Printing.{asked_text}
 use Rattle.command_words.specs.Request.{request_of}
 use Rattle.command_words.specs.declared.request.Request.TheVariants.{Command, Help}
@@ -9,13 +9,13 @@ use Rattle.command_line.proofs.answering.perform.Goals as goal
 
 pub returns-in-Command-clause-performs : goal.returns-in-Command-clause-performs
 returns-in-Command-clause-performs g c p q =
-    let done = c.ftmb.ensures in
+    let done = c.serial.ensures in
     let asks = c.in-Command.ensures in
     let here = c.in-Command.is in
     let is : request_of c.args.words.now ≡ Command = cc in
     record {
-      prints = prints_nothing c.args.words.now c.ftmb.result (g.W.World.shows p c.args.world.now)
-          (g.W.World.shows p c.ftmb.new.world) is;
+      prints = prints_nothing c.args.words.now c.serial.result (g.W.World.shows p c.args.world.now)
+          (g.W.World.shows p c.serial.new.world) is;
       answers = record {
         done = done.done p q;
         headline = done.headline p q;
@@ -45,7 +45,7 @@ returns-in-Help-clause-performs g c p q =
       prints = prints_text c.args.words.now Help c.help.result.now c.print.result
           (g.W.World.shows p c.args.world.now) (g.W.World.shows p c.print.new.world) is (ap Some (sym c.help.ensures))
           (c.print.ensures.prints p q);
-      answers = answers_none (g.W.World.healthy c.args.world.now) (g.C.Clock.may c.args.clock.now) c.args.words.now
+      answers = answers_none (g.W.World.healthy c.args.world.now) (λ (t : ℕ). ⊥) c.args.words.now
           c.print.result (g.W.World.shows p c.args.world.now) (g.W.World.shows p c.print.new.world)
           (asks_nothing c.args.words.now (λ command. let no : Help ≡ Command = sym is ∙ command in absurd (cc)));
     }

@@ -1,13 +1,13 @@
-use Rattle.std.proofs.Common.{◌≡◌, ap, sym, subst}
+use Rattle.std.proofs.Common.{◌≡◌, ℕ, ap, sym, subst}
 use Rattle.job_top.specs.Answers.{Answers}
 use Rattle.job_top.proofs.mirroring.run_mirrored.Goals as goal
 
 pub returns-clause-answers : goal.returns-clause-answers
 returns-clause-answers g c =
-    let told = c.ftmb-status.ensures in
+    let told = c.serial-status.ensures in
     let there : Answers {W = g.row.W.Denot} g.W.World.honest g.W.World.shows g.W.World.ledger g.W.World.healthy
-    (g.C.Clock.may c.args.clock.now) c.args.words.now c.ftmb-status.result c.args.world.world
-    c.ftmb-status.new.world.world = record {
+    (λ (t : ℕ). ⊥) c.args.words.now c.serial-status.result c.args.world.world
+    c.serial-status.new.world.world = record {
       bad_words = told.bad_words;
       nothing_asked = λ bad. ap (λ t. t.world) (told.nothing_asked bad);
       bytes = λ p h. record {
@@ -32,5 +32,5 @@ returns-clause-answers g c =
       before = told.before;
     } in
     subst (λ (w : g.row.W.Denot). Answers {W = g.row.W.Denot} g.W.World.honest g.W.World.shows g.W.World.ledger
-    g.W.World.healthy (g.C.Clock.may c.args.clock.now) c.args.words.now c.ftmb-status.result c.args.world.world w)
+    g.W.World.healthy (λ (t : ℕ). ⊥) c.args.words.now c.serial-status.result c.args.world.world w)
     (sym c.part.ensures.world) there

@@ -5,7 +5,7 @@ use Rattle.world_real.specs.Real.{real_ledger}
 use Rattle.world_told.specs.Sent.{name_of, sent_to}
 use Rattle.command_line.proofs.Runs.{plain-read_fault, plain-write_fault, plain_taps, plain_watch, runs-bad, runs-plain}
 use Rattle.command_line.proofs.Runs.{runs-tapped, tapped-read_fault, tapped-write_fault, tapped_watch}
-use Rattle.command_line.proofs.running.run_words.Goals as goal
+use Rattle.command_line.proofs.running.run_serial.Goals as goal
 
 pub returns-in-Bad-clause-runs : goal.returns-in-Bad-clause-runs
 returns-in-Bad-clause-runs g c =
@@ -93,3 +93,10 @@ returns-in-Taps-clause-no_command g c no_tap asked text watch =
 
 pub run_tapped-requires-clause-asks : goal.run_tapped-requires-clause-asks
 run_tapped-requires-clause-asks g c κs within = c.in-Taps.ensures.0
+
+pub run_plain-requires-clause-no_rounds : goal.run_plain-requires-clause-no_rounds
+run_plain-requires-clause-no_rounds g c κs within = c.requires.no_rounds.plain c.in-Plain.ensures
+
+pub run_tapped-requires-clause-no_rounds : goal.run_tapped-requires-clause-no_rounds
+run_tapped-requires-clause-no_rounds g c κs within =
+    c.requires.no_rounds.tapped c.in-Taps.pairs c.in-Taps.ensures.0

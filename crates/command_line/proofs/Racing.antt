@@ -1,0 +1,152 @@
+-- Words of `live`: they are a command, and no capture is watched. And what is promised of words that ask for no rounds
+-- holds whatever a clock may answer.
+use Rattle.std.proofs.Common.{◌≡◌, ◌⊎◌, ℕ, List, [], ◌∷◌, Bool, true, false, Option, None, Some, ap, inl, inr, refl, subst}
+use Rattle.std.proofs.Common.{sym, ◌∙◌}
+use Rattle.std.proofs.lemmas.Slice.Eq.{bytes_eq-Decides}
+use Rattle.std.specs.Prelude.{◌&&◌, if◌then◌else◌, codes}
+use Rattle.std.specs.Str.{bytes_eq}
+use Rattle.world_io.specs.World.{Start, Shown, Ledger}
+use Rattle.job_commands.specs.declared.status.Status.{Status}
+use Rattle.job_commands.specs.Words.{LiveNames, are_apart, live_names, live_with}
+use Rattle.job_top.specs.Answers.{Answers, AnswersBytes}
+use Rattle.job_top.proofs.Lives.{leaves_any}
+use Rattle.release_taps.specs.Split.{AsksForTaps, behind_pairs}
+use Rattle.command_line.specs.Performing.{Performs, PerformsIn}
+use Rattle.command_line.specs.Running.{AsksNoRounds, AsksPlainly, IsNotBegun, Runs}
+use Rattle.command_line.proofs.NoCommand.{prints_nothing}
+use Rattle.command_words.specs.Printing.{asked_text, text_for}
+use Rattle.command_words.specs.Request.{request_of}
+use Rattle.command_words.specs.declared.request.Request.{Request}
+use Rattle.command_words.specs.declared.request.Request.TheVariants.{Command}
+use Rattle.command_words.specs.Watching.{begins_watch}
+
+-- Words of `live`
+
+pub is_command : (words : List (List ℕ)) → ¬ (live_names words ≡ None) → request_of words ≡ Command
+is_command [] lives = absurd (lives refl)
+is_command (a ∷ []) lives = absurd (lives refl)
+is_command (a ∷ b ∷ []) lives = absurd (lives refl)
+is_command (a ∷ b ∷ c ∷ more) lives = refl
+
+not_watch : (command : List ℕ) (names : LiveNames) → ¬ (live_with command names ≡ None)
+    → bytes_eq command (codes "watch") ≡ true → ⊥
+not_watch command names lives watch = go (bytes_eq command (codes "live")) refl
+  where
+    go : (b : Bool) → bytes_eq command (codes "live") ≡ b → ⊥
+    go true live =
+        let is = sym ((bytes_eq-Decides command (codes "live")).0 live)
+            ∙ (bytes_eq-Decides command (codes "watch")).0 watch in
+        absurd (cc)
+    go false live = lives (ap (λ (b : Bool). if b && are_apart names then Some names else None) live)
+
+pub never_watch : (words : List (List ℕ)) → ¬ (live_names words ≡ None) → begins_watch words ≡ true → ⊥
+never_watch [] lives watch = lives refl
+never_watch (a ∷ []) lives watch = lives refl
+never_watch (a ∷ b ∷ []) lives watch = lives refl
+never_watch (a ∷ b ∷ c ∷ []) lives watch = lives refl
+never_watch (a ∷ b ∷ c ∷ d ∷ []) lives watch = lives refl
+never_watch (a ∷ b ∷ c ∷ d ∷ e ∷ []) lives watch = lives refl
+never_watch (a ∷ b ∷ c ∷ d ∷ e ∷ f ∷ []) lives watch = lives refl
+never_watch (command ∷ b ∷ c ∷ d ∷ e ∷ f ∷ g ∷ []) lives watch = not_watch command _ lives watch
+never_watch (a ∷ b ∷ c ∷ d ∷ e ∷ f ∷ g ∷ h ∷ more) lives watch = lives refl
+
+module _ {W : Type 0} (honest : Start → W → Type 0) (shows : Start → W → Shown) (ledger : W → Ledger)
+    (healthy : W → Type 0) (may : ℕ → Type 0) (words : List (List ℕ)) (status : Status) (old new : W) where
+  -- words of a command that were performed by the top call
+  pub raced : request_of words ≡ Command → Answers honest shows ledger healthy may words status old new
+      → PerformsIn honest shows ledger healthy may words status old new
+  raced is answers = record {
+    bytes = λ p h. record {
+      prints = prints_nothing words status (shows p old) (shows p new) is;
+      answers = answers.bytes p h;
+    };
+    bad_words = λ bad. (answers.bad_words.0 bad, ap text_for is);
+    nothing_asked = answers.nothing_asked;
+    creates_nothing = answers.creates_nothing;
+    never_fails = answers.never_fails;
+    read_fault = answers.read_fault;
+    write_fault = answers.write_fault;
+    opens_in_order = answers.opens_in_order;
+    opens_all = answers.opens_all;
+    opens_nothing = λ none. ap (λ (w : W). (ledger w).opened_names) (answers.nothing_asked (answers.bad_words.1 none));
+    given = answers.given;
+    before = answers.before;
+  }
+
+-- Whatever a clock may answer
+
+any_bytes : (healthy : Type 0) (may : ℕ → Type 0) (words : List (List ℕ)) (status : Status) (old new : Shown)
+    → live_names words ≡ None → AnswersBytes healthy (λ t. ⊥) words status old new
+    → AnswersBytes healthy may words status old new
+any_bytes healthy may words status old new none said = record {
+  done = λ done. leaves_any may words old new none (said.done done);
+  headline = said.headline;
+  limit = said.limit;
+  unready = said.unready;
+  in_order = said.in_order;
+  refused = said.refused;
+  others = said.others;
+  judged = said.judged;
+  completes = said.completes;
+}
+
+module _ {W X : Type 0} (honest : Start → W → Type 0) (shows : Start → W → Shown) (ledger : W → Ledger)
+    (healthy : W → Type 0) (may : ℕ → Type 0) (faults : X → ℕ) (refused : Option X) (words : List (List ℕ))
+    (status : Status) (old new : W) (printed : Ledger) where
+  any_answers : (some : List (List ℕ)) → live_names some ≡ None
+      → Answers honest shows ledger healthy (λ t. ⊥) some status old new
+      → Answers honest shows ledger healthy may some status old new
+  any_answers some none said = record {
+    bad_words = said.bad_words;
+    nothing_asked = said.nothing_asked;
+    bytes = λ p h. any_bytes (healthy old) may some status (shows p old) (shows p new) none (said.bytes p h);
+    creates_nothing = said.creates_nothing;
+    never_fails = said.never_fails;
+    read_fault = said.read_fault;
+    write_fault = said.write_fault;
+    opens_in_order = said.opens_in_order;
+    opens_all = said.opens_all;
+    given = said.given;
+    before = said.before;
+  }
+
+  any_performed : live_names words ≡ None
+      → PerformsIn honest shows ledger healthy (λ t. ⊥) words status old new
+      → PerformsIn honest shows ledger healthy may words status old new
+  any_performed none said = record {
+    bytes = λ p h. record {
+      prints = (said.bytes p h).prints;
+      answers = any_bytes (healthy old) may words status (shows p old) (shows p new) none (said.bytes p h).answers;
+    };
+    bad_words = said.bad_words;
+    nothing_asked = said.nothing_asked;
+    creates_nothing = said.creates_nothing;
+    never_fails = said.never_fails;
+    read_fault = said.read_fault;
+    write_fault = said.write_fault;
+    opens_in_order = said.opens_in_order;
+    opens_all = said.opens_all;
+    opens_nothing = said.opens_nothing;
+    given = said.given;
+    before = said.before;
+  }
+
+  pub runs-any : AsksNoRounds words
+      → Runs honest shows ledger healthy (λ t. ⊥) faults refused words status old new printed
+      → Runs honest shows ledger healthy may faults refused words status old new printed
+  runs-any no_rounds said = record {
+    bad_words = said.bad_words;
+    nothing_asked = said.nothing_asked;
+    performs = λ asks. any_performed (no_rounds.plain asks.no_tap) (said.performs asks);
+    watches = said.watches;
+    taps = λ pairs asks. go pairs (no_rounds.tapped pairs asks) (said.taps pairs asks);
+    before = said.before;
+  }
+    where
+      go : (pairs : ℕ) → live_names (behind_pairs pairs words) ≡ None
+          → IsNotBegun faults refused status old new
+          ⊎ Answers honest shows ledger healthy (λ t. ⊥) (behind_pairs pairs words) status old new
+          → IsNotBegun faults refused status old new
+          ⊎ Answers honest shows ledger healthy may (behind_pairs pairs words) status old new
+      go pairs none (inl not) = inl not
+      go pairs none (inr answers) = inr (any_answers (behind_pairs pairs words) none answers)
