@@ -3,7 +3,7 @@ use Rattle.release_taps.proofs.Counting.{one_count}
 use Rattle.command_line.specs.Running.{IsNotBegun, TapsMirror}
 use Rattle.world_real.specs.Real.{real_ledger}
 use Rattle.world_told.specs.Sent.{name_of, sent_to}
-use Rattle.command_line.proofs.Racing.{is_command, never_watch, raced}
+use Rattle.command_line.proofs.LiveWords.{is_command, never_watch, raced}
 use Rattle.command_line.proofs.Runs.{plain_taps, rose_some, runs-bad, runs-plain}
 use Rattle.command_line.proofs.Runs.{runs-tapped, tapped-read_fault, tapped-write_fault, tapped_watch}
 use Rattle.command_line.proofs.racing.run_racing.Goals as goal
