@@ -106,6 +106,7 @@ module _ {W X : Type 0} (honest : Start → W → Type 0) (shows : Start → W �
     write_fault = said.write_fault;
     opens_in_order = said.opens_in_order;
     opens_all = said.opens_all;
+    orderly = said.orderly;
     given = said.given;
     before = said.before;
   }

@@ -68,6 +68,7 @@ pub fn run_words<
     ensures no_command { ¬ BeginsWithTap words.now
         → asked words.now ≡ None → asked_text words.now ≡ None
         → begins_watch words.now ≡ false → result.status ≡ Status.BadWords }
+    ensures orderly { (W.ledger result.world).orderly ≡ (W.ledger world).orderly }
     ensures read_fault { result.status ≡ Status.ReadFault
         → 0 < (W.ledger result.world).read_faults }
     ensures write_fault { result.status ≡ Status.WriteFault

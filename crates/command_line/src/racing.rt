@@ -7,7 +7,7 @@ ghost use Rattle.command_words.specs.Watching.{PrintsLines, begins_watch};
 ghost use Rattle.job_top.specs.Answers.{Answers};
 ghost use Rattle.packet_taps.specs.Lines.{HasPrinted};
 ghost use Rattle.release_taps.specs.Split.{AsksForTaps, BeginsWithTap, behind_pairs};
-ghost use Rattle.world_io.specs.World.{Start};
+ghost use Rattle.world_io.specs.World.{Start, KeepsOrder};
 ghost use Rattle.world_real.specs.Real.{real_ledger};
 ghost use Rattle.world_told.specs.Sent.{name_of, sent_to};
 
@@ -62,6 +62,7 @@ pub(crate) fn run_racing<
     ensures no_command { ¬ BeginsWithTap words.now
         → asked words.now ≡ None → asked_text words.now ≡ None
         → begins_watch words.now ≡ false → result.status ≡ Status.BadWords }
+    ensures orderly { (W.ledger result.world).orderly ≡ (W.ledger world).orderly }
     ensures read_fault { result.status ≡ Status.ReadFault
         → 0 < (W.ledger result.world).read_faults }
     ensures write_fault { result.status ≡ Status.WriteFault
@@ -119,6 +120,7 @@ fn race_with_taps<
         result.status world result.world ⊎ Answers W.honest W.shows W.ledger
         W.healthy (C.may clock.now) (behind_pairs pairs words.now)
         result.status world result.world }
+    ensures orderly { KeepsOrder (W.ledger world) (W.ledger result.world) }
     ensures prints_nothing { result.out ≡ out }
     ensures mirrors { IsNotBegun (λ w. (real_ledger w).write_faults) result.refused
         result.status world result.world ⊎ TapsMirror W.honest W.shows W.ledger

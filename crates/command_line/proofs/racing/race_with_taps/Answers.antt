@@ -33,3 +33,6 @@ returns-in-Err-clause-mirrors g c =
     let status = c.status_without.ensures in
     inl (not_created (λ w. (real_ledger w).write_faults) c.in-Err.refused c.status_without.result c.args.world
     status.refused status.memory c.in-Err.ensures.refused)
+
+pub returns-in-Ok-race_tapped-clause-orderly : goal.returns-in-Ok-race_tapped-clause-orderly
+returns-in-Ok-race_tapped-clause-orderly g c = c.in-Ok-race_tapped.ensures.answers.orderly

@@ -83,6 +83,7 @@ returns-in-Plain-clause-runs g c =
       write_fault = c.ftmb-status.ensures.write_fault;
       opens_in_order = c.ftmb-status.ensures.opens_in_order;
       opens_all = c.ftmb-status.ensures.opens_all;
+      orderly = c.ftmb-status.ensures.orderly;
       given = c.ftmb-status.ensures.given;
       before = c.ftmb-status.ensures.before;
     }))
@@ -106,3 +107,9 @@ returns-in-Plain-clause-bad_taps g c begins none = absurd (c.in-Plain.ensures be
 
 pub returns-in-Plain-clause-no_command : goal.returns-in-Plain-clause-no_command
 returns-in-Plain-clause-no_command g c no_tap none text watch = c.ftmb-status.ensures.bad_words.1 none
+
+pub returns-in-Plain-clause-orderly : goal.returns-in-Plain-clause-orderly
+returns-in-Plain-clause-orderly g c = c.ftmb-status.ensures.orderly c.requires.new_world
+
+pub returns-in-Taps-clause-orderly : goal.returns-in-Taps-clause-orderly
+returns-in-Taps-clause-orderly g c = c.race_with_taps.ensures.orderly c.requires.new_world

@@ -27,6 +27,7 @@ returns-clause-answers g c =
       write_fault = told.write_fault;
       opens_in_order = told.opens_in_order;
       opens_all = told.opens_all;
+      orderly = told.orderly;
       given = told.given;
       before = told.before;
     } in
