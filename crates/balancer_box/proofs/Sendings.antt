@@ -370,8 +370,8 @@ module _ (s : Settings) (p : Packet) where
   time_known r a n Client is base now = (base, is)
   time_known r a n Answer is base now = (base, is, ap Some (sym now))
 
-  pub clock_known : (r : Trail) (place : Place) (a : ℕ) (n : Noted) → next_move s place n ≡ Clock → KnownAt s r p place n
-      → KnownAt s (after_clock a r) p (told place a n).place (told place a n).noted
+  pub clock_known : (r : Trail) (place : Place) (a : ℕ) (n : Noted) → next_move s place n ≡ Clock
+      → KnownAt s r p place n → KnownAt s (after_clock a r) p (told place a n).place (told place a n).noted
   clock_known r HearsTime a n e k =
       time_known r a (record n { time = a }) n.class refl (base_on n (record n { time = a }) refl refl refl refl k) refl
   clock_known r FindsConnection a n e k = absurd (cc)

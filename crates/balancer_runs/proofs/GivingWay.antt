@@ -173,8 +173,9 @@ module _ (s : Settings) (n : Noted) (es : Forwards) (v : ℕ) (all : AreMappings
   none_gone at first = record {
     own = λ later there. absurd (cc (there, at));
     other = λ none idle was there is.
-        let live = live_is s.closing n.time idle was (has_phase idle was there) (none_idle n.time es idle was first there)
-        in absurd (omega (arith, live, is));
+        let live =
+        live_is s.closing n.time idle was (has_phase idle was there) (none_idle n.time es idle was first there) in
+        absurd (omega (arith, live, is));
     one = λ a b gone gone_too. absurd (let was = gone.0.1 in let none = gone.1 in cc (was, none));
   }
 
@@ -282,6 +283,6 @@ idle_give_way s threads inputs x earlier entry left v place h es client is bytes
     let same = ap connections_in t.left in
     let there = subst (λ (l : Forwards).
     IsDated n.client n.time es l × (r.found ≡ None → GiveWay n.client n.time es l)) (sym same) (k.2, k.3) in
-    let own = subst (λ (c : Endpoint). IsDated c n.time es after × (r.found ≡ None → GiveWay c n.time es after)) (sym k.0)
-    there in
+    let own = subst (λ (c : Endpoint). IsDated c n.time es after × (r.found ≡ None → GiveWay c n.time es after))
+    (sym k.0) there in
     (n.time, k.1, own.0, own.1)

@@ -205,8 +205,8 @@ module _ (s : Settings) (threads : ℕ) (inputs : ℕ → List Packet) (x : Step
 
   heard : (side : Class) → IsOfSide s client new.port flow side → Heard side
   heard side of =
-      let k = sides_are_heard s threads inputs x earlier touch.0 touch.1 v touch.2 h es flow side client new is bytes run
-      touch.3 touch.4 low held seen table there of in
+      let k = sides_are_heard s threads inputs x earlier touch.0 touch.1 v touch.2 h es flow side client new is bytes
+      run touch.3 touch.4 low held seen table there of in
       let one : k.0 ≡ now = (let both : Some k.0 ≡ Some now = sym k.2 ∙ clock in cc) in
       let old : k.1 ≡ phase_said seconds said =
       had_same (slot_of client es) k.1 (phase_said seconds said) k.3 had in (
@@ -390,8 +390,8 @@ module _ (s : Settings) (threads : ℕ) (inputs : ℕ → List Packet) (x : Step
         in_table s v (value_after (balancer_meaning s) (x ∷ earlier) v) client new (fits (x ∷ earlier) run v low)
         there in
         let e = is_table s v (value v) (fits earlier run.1 v low) high in
-        let t = table_touched s threads inputs x earlier touch.0 touch.1 v touch.2 h e.0 is bytes run touch.3 touch.4 low
-        k.1 e.1 in
+        let t = table_touched s threads inputs x earlier touch.0 touch.1 v touch.2 h e.0 is bytes run touch.3 touch.4
+        low k.1 e.1 in
         let n = noted_by s h.place in
         let clock : clock_told ≡ Some n.time =
         time_noted s (trail_of s x.thread earlier) (loads_met s x.thread earlier) h.packet

@@ -1,5 +1,5 @@
--- How connections end: each packet of a side is heard at its touch of the table; an ended connection gives way to the one
--- that its client opens; and where connections are not followed, a reset removes one.
+-- How connections end: each packet of a side is heard at its touch of the table; an ended connection gives way to the
+-- one that its client opens; and where connections are not followed, a reset removes one.
 use Rattle.std.specs.Prelude.{◌≡◌, ℕ, ◌+◌, ◌<◌, List, ◌∷◌, Option, Some, None, Ok}
 use Rattle.plain_text.specs.declared.packet.Packet.{Packet}
 use Rattle.packet_headers.specs.declared.flow.Flow.{Flow}
@@ -32,8 +32,8 @@ IsHeard Client now client old = Unit {0}
 IsHeard Answer now client None = ⊥
 IsHeard Answer now client (Some old) = IsLiveAt now client old
 
--- Each touch of a connection table by a packet of a side: the phase of the connection that it leaves is the one that the
--- packet's control bits make of the one before; or the connection is the same, where the packet is not heard.
+-- Each touch of a connection table by a packet of a side: the phase of the connection that it leaves is the one that
+-- the packet's control bits make of the one before; or the connection is the same, where the packet is not heard.
 abbrev pub SidesAreHeard : Type 0
 SidesAreHeard =
     (s : Settings) (threads : ℕ) (inputs : ℕ → List Packet) (x : Step BalancerValue)

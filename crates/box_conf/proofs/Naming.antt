@@ -1,7 +1,8 @@
--- What the lines name that may stand again: each line `static` and `backend` names one, in their order; there are at most
--- 64 of each, and the static ports are of the inside network.
+-- What the lines name that may stand again: each line `static` and `backend` names one, in their order; there are at
+-- most 64 of each, and the static ports are of the inside network.
 use Rattle.std.proofs.Common.{◌≡◌, ℕ, ◌+◌, ◌<◌, ◌≤◌, ◌⊎◌, inl, inr, List, [], ◌∷◌, ◌++◌, refl, sym, ap}
-use Rattle.std.proofs.Common.{◌∙◌, subst, arith, Option, Some, None, true, false, Bool, cond, Ok, Err, length, append-nil}
+use Rattle.std.proofs.Common.{◌∙◌, subst, arith, Option, Some, None, true, false, Bool, cond, Ok, Err, length}
+use Rattle.std.proofs.Common.{append-nil}
 use Rattle.std.proofs.Common.{append_assoc, length-append}
 use Rattle.std.specs.Prelude.{Result, ◌&&◌, not, nat_lt, codes, option_map}
 use Rattle.std.specs.List.{AllByRecursion}
@@ -22,7 +23,8 @@ use Rattle.box_conf.specs.declared.table.BoxLine.{BoxLine}
 use Rattle.box_conf.specs.declared.table.BoxLine.TheVariants.{Static, Backend, Inside}
 use Rattle.box_conf.specs.declared.table.Values.{Values}
 use Rattle.box_conf.specs.Names.{and_name, backend_from, backend_named, count_of, has_name, inside_in, inside_of}
-use Rattle.box_conf.specs.Names.{is_of_network, is_stray, name_cause, name_of, names_after, names_fault, or_inside, or_later}
+use Rattle.box_conf.specs.Names.{is_of_network, is_stray, name_cause, name_of, names_after, names_fault, or_inside}
+use Rattle.box_conf.specs.Names.{or_later}
 use Rattle.box_conf.specs.Names.{protocol_of, static_from, static_named, values_read, with_name}
 use Rattle.box_conf.specs.Settings.{line_read}
 use Rattle.box_conf.specs.Stated.{Line, EachSays, IsBackend, IsProtocol, IsStatic}
@@ -169,7 +171,8 @@ pub static_here : (rows : List Row) (words : Words) (values : List ℕ)
 static_here rows words values says = (
   static_from (values_from values),
   static_says words values says.1,
-  ap (λ (r : Result Values LineCause). static_of (static_named r)) (read_so rows Static (word_of Static) words values says),
+  ap (λ (r : Result Values LineCause). static_of (static_named r))
+      (read_so rows Static (word_of Static) words values says),
 )
 
 pub static_elsewhere : (word : List ℕ) (words : Words) → bytes_eq word (word_of Static) ≡ false
@@ -366,7 +369,8 @@ module _ (rows : List Row) (listed : row_named (word_of Inside) rows ≡ Some (r
               let read = read_so rows Inside word words are.0.1 says_it in
               let here : inside_of (words_of line.1) ≡ Some (values_from are.0.1) =
               ap inside_of e
-              ∙ (ap (λ (b : Bool). cond b (values_read (line_read Inside false words)) None) is ∙ ap values_read read) in
+              ∙ (ap (λ (b : Bool). cond b (values_read (line_read Inside false words)) None) is
+              ∙ ap values_read read) in
               record {
                 line = line;
                 values = are.0.1;

@@ -33,7 +33,8 @@ use Rattle.box_conf.proofs.Naming.{statics_after, statics_inside}
 use Rattle.box_conf.proofs.NamedBackends.{named_there}
 use Rattle.box_conf.proofs.OneFile.{one_list}
 use Rattle.box_conf.proofs.Ranges.{in_order}
-use Rattle.box_conf.proofs.Wordings.{no_words, one_word, says_address, says_end, says_flag, says_or, says_some, stands_or, two}
+use Rattle.box_conf.proofs.Wordings.{no_words, one_word, says_address, says_end, says_flag, says_or, says_some}
+use Rattle.box_conf.proofs.Wordings.{stands_or, two}
 
 -- The first line
 
@@ -138,8 +139,8 @@ module _ (lines : List Line) where
       (λ rest stands s. no_words lines (word_of Vlan) rest (x.values Vlan) stands s) refl (x.set Vlan) in
       record {
         threads =
-            (says_or kind.Count lines x.rows Threads 1 16 1 (x.values Threads) refl refl refl (omega arith) (omega arith)
-            (x.set Threads)).0;
+            (says_or kind.Count lines x.rows Threads 1 16 1 (x.values Threads) refl refl refl (omega arith)
+            (omega arith) (x.set Threads)).0;
         seed =
             (says_or kind.Count lines x.rows Seed 0 (2 ^ 64 - 1) 0 (x.values Seed) refl refl refl (omega arith)
             (omega arith) (x.set Seed)).0;
@@ -198,16 +199,18 @@ module _ (lines : List Line) where
             (sym (low (Of x Ports).first (Of x Ports).second range.1 range.2 range.3))
             (subst (λ (n : ℕ). SaysRange lines (codes "ports") 1024 65535 (Of x Ports).first n)
             (sym (high (Of x Ports).first (Of x Ports).second range.1 range.2 range.3)) range.0);
-        closing = says_some kind.Nat lines x.rows Closing (2 ^ 32 - 1) (x.values Closing) refl refl refl (x.set Closing);
+        closing =
+            says_some kind.Nat lines x.rows Closing (2 ^ 32 - 1) (x.values Closing) refl refl refl (x.set Closing);
         limit = says_some kind.Nat lines x.rows Limit 65535 (x.values Limit) refl refl refl (x.set Limit);
         errors =
             says_flag kind.Nat lines x.rows Icmp (codes "errors" ∷ []) (x.values Icmp) refl
             (λ rest stands s. one_word lines (word_of Icmp) (codes "errors") rest (x.values Icmp) stands s) refl
             (x.set Icmp);
         statics =
-            subst (EachSays (codes "static") IsStatic lines) (sym (statics_after (rows_of kind.Nat) refl no_names lines))
-            (each_says (rows_of kind.Nat) Static refl IsStatic static_of (static_here (rows_of kind.Nat)) static_elsewhere
-            lines said);
+            subst (EachSays (codes "static") IsStatic lines)
+            (sym (statics_after (rows_of kind.Nat) refl no_names lines))
+            (each_says (rows_of kind.Nat) Static refl IsStatic static_of (static_here (rows_of kind.Nat))
+            static_elsewhere lines said);
       }
     where
       low : (a b : ℕ) → 1 ≤ a → a ≤ b → b ≤ 65535 → max 1 (min a 65535) ≡ a

@@ -154,7 +154,8 @@ module _ (kind : KindWord) (lines : List Line) (rows : AreLines (rows_of kind) l
 
   -- a line that stands, in its words
   abbrev Worded : BoxLine → List ℕ → Type 0
-  Worded line values = (rest : List (List ℕ)) × Stands lines (word_of line ∷ rest) × PlacesSay (row_of line).places rest values
+  Worded line values =
+      (rest : List (List ℕ)) × Stands lines (word_of line ∷ rest) × PlacesSay (row_of line).places rest values
       × ((row_of line).fits values ≡ true)
 
   worded : (line : BoxLine) (values : List ℕ) (x : Line) → HasLine lines x → Says (rows_of kind) x (row_of line) values

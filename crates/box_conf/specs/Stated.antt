@@ -64,7 +64,8 @@ SaysAddress lines word address =
 -- a line of this word has these two numbers, or there is none, and they are the usual ones
 abbrev pub SaysRange : List Line → List ℕ → ℕ → ℕ → ℕ → ℕ → Type 0
 SaysRange lines word least greatest low high =
-    ((from to : List ℕ) × Stands lines (word ∷ from ∷ to ∷ []) × (number_of from ≡ Some low) × (number_of to ≡ Some high))
+    ((from to : List ℕ) × Stands lines (word ∷ from ∷ to ∷ []) × (number_of from ≡ Some low)
+    × (number_of to ≡ Some high))
     ⊎ (IsAbsent lines word × (low ≡ least) × (high ≡ greatest))
 
 -- a line of this word says the first of these, and further lines the others; or it is of another word

@@ -1,6 +1,7 @@
 ghost use Rattle.std.specs.Prelude.{◌≡◌, ◌≤◌, ◌<◌, ◌^◌, true, None, is_some, length};
 ghost use Rattle.box_conf.specs.Kinds.{kind_named, lines_of, line_named, missing_line, box_from};
-ghost use Rattle.box_conf.specs.Kinds.{number_of, nat_from, balancer_from, has_tags, IsBalancer, drop_register};
+ghost use Rattle.box_conf.specs.Kinds.{number_of, nat_from, balancer_from, has_tags, IsBalancer};
+ghost use Rattle.box_conf.specs.Kinds.{drop_register};
 ghost use Rattle.box_conf.specs.Settings.{AreInRange, setting, values_set};
 ghost use Rattle.box_conf.specs.declared.table.BoxLine.TheVariants.{Inside, Outside, Virtual};
 

@@ -1,6 +1,7 @@
 -- Words of `live`: they are a command, and no capture is watched. And what is promised of words that ask for no rounds
 -- holds whatever a clock may answer.
-use Rattle.std.proofs.Common.{◌≡◌, ◌⊎◌, ℕ, List, [], ◌∷◌, Bool, true, false, Option, None, Some, ap, inl, inr, refl, subst}
+use Rattle.std.proofs.Common.{◌≡◌, ◌⊎◌, ℕ, List, [], ◌∷◌, Bool, true, false, Option, None, Some, ap, inl, inr, refl}
+use Rattle.std.proofs.Common.{subst}
 use Rattle.std.proofs.Common.{sym, ◌∙◌}
 use Rattle.std.proofs.lemmas.Slice.Eq.{bytes_eq-Decides}
 use Rattle.std.specs.Prelude.{◌&&◌, if◌then◌else◌, codes}

@@ -23,8 +23,8 @@ use Rattle.command_words.specs.Watching.{Watches, begins_watch, watch_status}
 use Rattle.command_words.specs.declared.clashes.Clash.{Clash}
 use Rattle.command_words.specs.declared.named_file.NamedFile.{NamedFile}
 
--- The words ask for no rounds of racing threads, that is not for `live`: neither they, where they ask for no tap, nor those
--- after the taps.
+-- The words ask for no rounds of racing threads, that is not for `live`: neither they, where they ask for no tap, nor
+-- those after the taps.
 pub record AsksNoRounds (words : List (List ℕ)) : Type 0 where
   pub plain : ¬ BeginsWithTap words → live_names words ≡ None
   pub tapped : (pairs : ℕ) → AsksForTaps words pairs → live_names (behind_pairs pairs words) ≡ None

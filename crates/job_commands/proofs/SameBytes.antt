@@ -34,7 +34,8 @@ leave_same : (names other : RunNames) (old new before after : Shown) (x : Inputs
     → LeaveSameBytes names other old new before after
 leave_same names other old new before after x r q =
     let one =
-    leaves_one (setting_for x) x.events r.report q.report r.released q.released r.schedule q.schedule r.leaves q.leaves in
+    leaves_one (setting_for x) x.events r.report q.report r.released q.released r.schedule q.schedule r.leaves
+    q.leaves in
     record {
       released = q.files.released_is
           ∙ ap (λ (packets : List Packet). Some (written x.capture.unit packets)) (sym one.1) ∙ sym r.files.released_is;

@@ -107,8 +107,8 @@ pub fn inputs_are_of_bytes<X>()
 {}
 
 /// What `run` leaves is a function of the bytes of its input files: two runs that are done on the same bytes of box,
-/// capture and script, under whatever names and in whatever worlds, leave the same bytes of RELEASED and SCHEDULE and add
-/// the same bytes to the report.
+/// capture and script, under whatever names and in whatever worlds, leave the same bytes of RELEASED and SCHEDULE and
+/// add the same bytes to the report.
 pub fn runs_on_the_same_bytes_leave_the_same()
     ensures { (names other : RunNames) (old new before after : Shown)
         → HaveSameInputs names other old before → RunsWhole names old new

@@ -1,5 +1,5 @@
-//! The top call: the commands of FTMB over any world; and a run with taps, which is the top call over a world that shows
-//! them the bytes which the released capture took.
+//! The top call: the commands of FTMB over any world; and a run with taps, which is the top call over a world that
+//! shows them the bytes which the released capture took.
 #![tactic(auto)]
 
 mod chain;

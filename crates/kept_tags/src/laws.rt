@@ -27,9 +27,10 @@ pub fn tags_go_out_as_they_came()
 {}
 
 /// Where tags are looked through, a packet is seen without its first four bytes exactly where its frame has a tag: the
-/// type in bytes 12 and 13 is 0x8100 (IEEE 802.1Q, 9.5). So bytes 16 and on, after the tag, are seen as bytes 12 and on,
-/// where a frame without a tag has its type. Every other packet is seen as it is, and so is each one where tags are not
-/// looked through. What was not seen goes out in front again: a frame that is left as it is seen goes out as it came.
+/// type in bytes 12 and 13 is 0x8100 (IEEE 802.1Q, 9.5). So bytes 16 and on, after the tag, are seen as bytes 12 and
+/// on, where a frame without a tag has its type. Every other packet is seen as it is, and so is each one where tags are
+/// not looked through. What was not seen goes out in front again: a frame that is left as it is seen goes out as it
+/// came.
 pub fn tags_alone_are_looked_through()
     ensures untagged { (p : Packet) → AreBytes p.bytes → (HasTag p.bytes → ⊥)
         → behind_tag true p ≡ p }

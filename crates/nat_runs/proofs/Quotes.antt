@@ -109,8 +109,10 @@ module _ (frame : List ℕ) (error : IcmpError) (w : Task) (parts : Stands (leng
       let half = exchanged_word frame 24 w.outer (w.address / 65536) in
       let ends : w.outer + 4 ≤ 34 = omega (arith, targets.outer_is, targets.outer_to) in
       let begins : 34 + 28 ≤ place = omega (arith, parts.behind, parts.quoted_header) in
-      other_word half 24 (w.outer + 2) (w.address % 65536) place (omega (arith, begins)) (inr (omega (arith, begins, ends)))
-      ∙ other_word frame 24 w.outer (w.address / 65536) place (omega (arith, begins)) (inr (omega (arith, begins, ends)))
+      other_word half 24 (w.outer + 2) (w.address % 65536) place (omega (arith, begins))
+      (inr (omega (arith, begins, ends)))
+      ∙ other_word frame 24 w.outer (w.address / 65536) place (omega (arith, begins))
+      (inr (omega (arith, begins, ends)))
 
   last_word : (place : ℕ) → error.transport_at ≤ place
       → word_at (all_done frame error w) place ≡ word_at (with_port frame error w) place
@@ -122,7 +124,8 @@ module _ (frame : List ℕ) (error : IcmpError) (w : Task) (parts : Stands (leng
       let b = exchanged_word a c w.quoted (w.address / 65536) in
       let begins : error.icmp_at + 28 ≤ place = omega (arith, parts.quoted_header, from) in
       let ends : w.quoted + 4 ≤ error.icmp_at + 28 = omega (arith, targets.quoted_is, targets.quoted_to) in
-      other_word b c (w.quoted + 2) (w.address % 65536) place (omega (arith, begins)) (inr (omega (arith, begins, ends)))
+      other_word b c (w.quoted + 2) (w.address % 65536) place (omega (arith, begins))
+      (inr (omega (arith, begins, ends)))
       ∙ other_word a c w.quoted (w.address / 65536) place (omega (arith, begins)) (inr (omega (arith, begins, ends)))
       ∙ other_word f4 c (quoted_checksum error) new place (omega (arith, begins)) (inr (omega (arith, begins)))
 
@@ -385,8 +388,8 @@ module _ (frame : List ℕ) (error : IcmpError) (w : Task) (bytes : AreBytes fra
       (weight frame error.transport_at error.end more) checksum old_address w.address old_port w.port
       (written_checksum error.protocol checksum second) first second balance (weighs more) first_balance second_balance
       (written_mod error.protocol checksum second (λ udp. has_checksum (is_not_tcp error.protocol udp))) in
-      right_with (addresses new error) (addresses frame error) (protocol_byte new error) (protocol_byte frame error) size
-      (weight new error.transport_at error.end more) (weight frame error.transport_at error.end more)
+      right_with (addresses new error) (addresses frame error) (protocol_byte new error) (protocol_byte frame error)
+      size (weight new error.transport_at error.end more) (weight frame error.transport_at error.end more)
       (quoted_words new error size more) (quoted_words frame error size more) (quoted_total new error size more)
       (quoted_total frame error size more) number_kept some all
 

@@ -139,8 +139,8 @@ SentByClass =
     → IsHistory (nat_meaning s) inputs threads (x ∷ earlier) → x.act ≡ Emitted o
     → IsSentByClass s o.packet.bytes (slice_get (inputs x.thread) (o.input - 1))
 
--- 9 is for a packet of no class; 8 and 10 for one that needs a mapping of its own source, 7 for one that needs a mapping
--- to go to or to be about; 1 to 6 for what is neither a flow nor an error
+-- 9 is for a packet of no class; 8 and 10 for one that needs a mapping of its own source, 7 for one that needs a
+-- mapping to go to or to be about; 1 to 6 for what is neither a flow nor an error
 abbrev pub IsCountedByClass : Settings → Packet → ℕ → Type 0
 IsCountedByClass s p reason =
     (IsOfNoClass s p × (reason ≡ 9))

@@ -146,15 +146,15 @@ pub fn errors_go_through_by_the_line()
     ensures moves { OtherMovesAreTheSame }
 {}
 
-/// What is sent out, what is dropped and who has a mapping, by the bits of addresses alone and not by the box's own test
-/// of one. An address is inside where its leading bits are those of the inside network. Each packet that is sent out is
-/// of one of five classes and translated as its class says (`sent`): it goes from inside to an address that is neither
-/// inside nor the outside address; or from inside to the outside address, and back inside; or from elsewhere to the
-/// outside address, and inside; or, where errors of ICMP go through, it is one from inside about a packet that went
+/// What is sent out, what is dropped and who has a mapping, by the bits of addresses alone and not by the box's own
+/// test of one. An address is inside where its leading bits are those of the inside network. Each packet that is sent
+/// out is of one of five classes and translated as its class says (`sent`): it goes from inside to an address that is
+/// neither inside nor the outside address; or from inside to the outside address, and back inside; or from elsewhere to
+/// the outside address, and inside; or, where errors of ICMP go through, it is one from inside about a packet that went
 /// inside (RFC 5508, REQ-5), or one from elsewhere to the outside address about a packet that came from there (REQ-4).
 /// What goes inside goes to an inside address or to the endpoint of a static port. A packet of a class is never counted
-/// as a stray, and one of no class as nothing else (`counted`). Each mapping is of an inside address or of a static port
-/// (`mappings`). The inside network is any of 32 bits.
+/// as a stray, and one of no class as nothing else (`counted`). Each mapping is of an inside address or of a static
+/// port (`mappings`). The inside network is any of 32 bits.
 pub fn classes_are_by_the_networks()
     ensures sent { SentByClass }
     ensures counted { CountedByClass }

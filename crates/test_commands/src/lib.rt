@@ -1,7 +1,7 @@
 //! Tests of the commands over the world in memory, of what no stored session of the program can do: reads and writes
-//! that fail, files at the limits of their size, a crash at each event of a race, large runs from a number, runs that are
-//! too large for a picture or a trace, taps that fail, and threads that race and wait for one another. They stand apart
-//! from `job_top`, so that it is proved once and not again with its tests.
+//! that fail, files at the limits of their size, a crash at each event of a race, large runs from a number, runs that
+//! are too large for a picture or a trace, taps that fail, and threads that race and wait for one another. They stand
+//! apart from `job_top`, so that it is proved once and not again with its tests.
 #![tactic(auto)]
 
 #[cfg(test)]

@@ -1,5 +1,5 @@
-//! Tests of numbered locks: rounds in which threads race over one box, and what they come to, also where they end in the
-//! middle of a packet; the turns in which it is woven; and what a guide says that rounds follow; and lanes between
+//! Tests of numbered locks: rounds in which threads race over one box, and what they come to, also where they end in
+//! the middle of a packet; the turns in which it is woven; and what a guide says that rounds follow; and lanes between
 //! threads. They stand apart, so that what they test is proved once.
 #![tactic(auto)]
 

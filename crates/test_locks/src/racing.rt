@@ -28,7 +28,8 @@ pub struct Feed<'a> {
     pub inputs: &'a InputLog,
     /// Each thread takes this number of its first inputs.
     pub count: u64,
-    /// Of each input it makes at most this number of moves; where one is not at its end then, the thread ends the round.
+    /// Of each input it makes at most this number of moves; where one is not at its end then, the thread ends the
+    /// round.
     pub moves: u32,
     /// The time of the round, in microseconds: a thread's k-th packet is told the time k times 300 s later.
     pub time: u64,

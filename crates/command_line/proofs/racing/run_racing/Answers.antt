@@ -19,13 +19,15 @@ returns-in-Taps-clause-runs g c =
 
 pub returns-in-Taps-clause-read_fault : goal.returns-in-Taps-clause-read_fault
 returns-in-Taps-clause-read_fault g c =
-    tapped-read_fault _ _ _ _ _ _ _ c.args.words.now c.race_with_taps.result.status c.args.world c.race_with_taps.result.world
-    (g.V.World.ledger c.race_with_taps.result.out) c.in-Taps.pairs c.in-Taps.ensures.0 c.race_with_taps.ensures.answers
+    tapped-read_fault _ _ _ _ _ _ _ c.args.words.now c.race_with_taps.result.status c.args.world
+    c.race_with_taps.result.world (g.V.World.ledger c.race_with_taps.result.out) c.in-Taps.pairs c.in-Taps.ensures.0
+    c.race_with_taps.ensures.answers
 
 pub returns-in-Taps-clause-write_fault : goal.returns-in-Taps-clause-write_fault
 returns-in-Taps-clause-write_fault g c =
-    tapped-write_fault _ _ _ _ _ _ _ c.args.words.now c.race_with_taps.result.status c.args.world c.race_with_taps.result.world
-    (g.V.World.ledger c.race_with_taps.result.out) c.in-Taps.pairs c.in-Taps.ensures.0 c.race_with_taps.ensures.answers
+    tapped-write_fault _ _ _ _ _ _ _ c.args.words.now c.race_with_taps.result.status c.args.world
+    c.race_with_taps.result.world (g.V.World.ledger c.race_with_taps.result.out) c.in-Taps.pairs c.in-Taps.ensures.0
+    c.race_with_taps.ensures.answers
 
 pub returns-in-Bad-clause-prints : goal.returns-in-Bad-clause-prints
 returns-in-Bad-clause-prints g c asks = absurd (asks.no_tap c.in-Bad.ensures.0)
