@@ -44,7 +44,8 @@ use Rattle.balancer_box.proofs.Noting.{touched_noted}
 use Rattle.balancer_box.proofs.Making.{goes_on, Made, made}
 use Rattle.balancer_box.proofs.TableCharges.{OwesNone, owes_none, clock_owes_none, emit_owes_none, end_owes_none}
 use Rattle.balancer_box.proofs.TableCharges.{told_owes_none, begun_owes_none, Balanced, sum_none, begins_even, CountTo}
-use Rattle.balancer_box.proofs.TableCharges.{found_even, bound_even, check_even}
+use Rattle.balancer_box.proofs.TableCharges.{found_even, bound_even, check_even, met_by_even, connected_even}
+use Rattle.balancer_box.proofs.TableCharges.{checked_even}
 
 module _ (s : Settings) (i v : ℕ) (n : Noted) (es : Forwards) (all : AreMappings (MayConnect s v) es) where
   plain_slot : s.closing ≡ None → (slot : Slot) → slot_of n.client es ≡ Some slot → slot.phase ≡ Plain

@@ -48,10 +48,10 @@ IsOf s flow n Answer =
     × (backend_at s.backends flow.source flow.source_port ≡ Some n.backend)
 
 pub record IsBase (s : Settings) (p : Packet) (n : Noted) : Type 0 where
-  flow : Flow
-  seen : viewed p.bytes p.original ≡ Ok flow
-  reset : n.resets ≡ resets flow
-  of : IsOf s flow n n.class
+  pub flow : Flow
+  pub seen : viewed p.bytes p.original ≡ Ok flow
+  pub reset : n.resets ≡ resets flow
+  pub of : IsOf s flow n n.class
 
 -- the packet has its backend
 abbrev pub IsSettled : Trail → Noted → Class → Type 0

@@ -311,7 +311,7 @@ module _ (i seconds : ℕ) (n : Noted) where
         ap (λ (k : ℕ). counted i (without n.client es) + k) (idle_owes slot) ∙ counted_without i n.client slot es at
     met_there_even slot false at = met_even slot (gives_way n slot) at refl
 
-    met_by_even : (o : Option Slot) (idle : Option (Endpoint × Slot)) → slot_of n.client es ≡ o
+    pub met_by_even : (o : Option Slot) (idle : Option (Endpoint × Slot)) → slot_of n.client es ≡ o
         → first_idle n.time es ≡ idle → CountTo i (counted i es) (met_by seconds n es o idle)
     met_by_even (Some slot) idle at first = met_there_even slot (is_idle n.time (n.client, slot)) at
     met_by_even None (Some e) at first =
@@ -320,7 +320,7 @@ module _ (i seconds : ℕ) (n : Noted) where
     met_by_even None None at first =
         ap (λ (k : ℕ). counted i es + k) (begins_even i n n.resets) ∙ sum_none (counted i es)
 
-    connected_even : (o : Option Slot) → slot_of n.client es ≡ o
+    pub connected_even : (o : Option Slot) → slot_of n.client es ≡ o
         → CountTo i (counted i es + one_if (n.backend == i)) (connected_by seconds n es o)
     connected_even (Some slot) at =
         let left : Forwards = refresh n.client n.time es in
@@ -339,7 +339,7 @@ module _ (i seconds : ℕ) (n : Noted) where
         (slot_appended n.client (new_slot n) es at (same_self n.client)) refl
         (counted_append i n.client (new_slot n) es)
 
-    checked_even : (o : Option Slot) → slot_of n.client es ≡ o
+    pub checked_even : (o : Option Slot) → slot_of n.client es ≡ o
         → CountTo i (counted i es) (checked_by seconds n es o)
     checked_even None at = sum_none (counted i es)
     checked_even (Some slot) at = by (lives_at n.client n.backend n.time (Some slot)) refl

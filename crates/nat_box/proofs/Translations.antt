@@ -43,11 +43,11 @@ use Rattle.nat_box.proofs.Following.{was_followed}
 -- What is known of a packet in hand
 
 pub record IsBase (s : Settings) (p : Packet) (n : Noted) : Type 0 where
-  flow : Flow
-  seen : flow_seen s p ≡ Ok flow
-  class : class_seen s p ≡ Some n.class
-  source : n.source ≡ source_of flow
-  dest_port : n.dest_port ≡ flow.dest_port
+  pub flow : Flow
+  pub seen : flow_seen s p ≡ Ok flow
+  pub class : class_seen s p ≡ Some n.class
+  pub source : n.source ≡ source_of flow
+  pub dest_port : n.dest_port ≡ flow.dest_port
 
 abbrev pub IsOutward : Class → Type 0
 IsOutward Outbound = Unit {0}
