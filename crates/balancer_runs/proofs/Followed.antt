@@ -265,7 +265,7 @@ module _ (seconds : ℕ) where
     again (inl q) is = finishes q ∙ ap (phase_finished seconds side) is ∙ finished_again side
     again (inr q) is = same_told side (tells_of flags) old q ∙ is
 
-    segment_follows : SegmentFollows seconds flags side old new_phase
+    pub segment_follows : SegmentFollows seconds flags side old new_phase
     segment_follows = record {
       reset = λ rst. ap (λ (t : Tells). phase_told seconds side t old) (tells_reset flags rst);
       first = λ rst fin is.

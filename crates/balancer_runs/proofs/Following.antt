@@ -49,6 +49,7 @@ use Rattle.balancer_runs.proofs.Tables.{without_idle_had}
 use Rattle.balancer_runs.proofs.Known.{IsBase, KnownAt, Known, both}
 use Rattle.balancer_runs.proofs.Knowing.{run_known}
 use Rattle.balancer_runs.proofs.Connections.{touch_is}
+use Rattle.balancer_runs.proofs.Followed.{segment_follows}
 use Rattle.balancer_box.proofs.Sendings.{IsOf}
 
 -- What a touch makes of a client's phase: the connection was there, the same, or it is the packet's, and notes it

@@ -41,7 +41,7 @@ use Rattle.nat_runs.proofs.Within.{mapped_ports}
 use Rattle.nat_runs.proofs.ThreadMoves.{touch_kind, look_kind, at_clock, at_draw, at, touched_below, read_below}
 use Rattle.nat_runs.proofs.ThreadMoves.{by_move}
 use Rattle.nat_runs.proofs.Known.{IsBase, IsWanting, KnownAt, Known, known_on, timed, time_noted, looked_noted}
-use Rattle.nat_runs.proofs.KnownTouches.{base_on, time_known}
+use Rattle.nat_runs.proofs.KnownTouches.{base_on, time_known, touch_known, look_known}
 
 -- The beginning
 

@@ -329,7 +329,7 @@ module _ (s : Settings) (p : Packet) where
         ports w (key, slot)
         (low, subst (λ (x : NatValue). Has (mappings_in x) (key, slot)) (sym is) (slot_in key slot es there))
 
-    touch_known : (m : Met) (w : ℕ) (place : Place) (x : NatValue) (n : Noted) (limit : Option ℕ) → s.limit ≡ limit
+    pub touch_known : (m : Met) (w : ℕ) (place : Place) (x : NatValue) (n : Noted) (limit : Option ℕ) → s.limit ≡ limit
         → value w ≡ x → w < 2 + 2 * s.shards → TouchKind place x → var_of s place n ≡ w → KnownAt s m p place n
         → (let r = touched_by limit place x n in
         KnownAt s (met_by_touch value x (Some (followed s n r.0)) m) p r.1.place r.1.noted)
@@ -501,7 +501,7 @@ module _ (s : Settings) (p : Packet) where
               refl,
             )))))
 
-    look_known : (m : Met) (w : ℕ) (place : Place) (x : NatValue) (n : Noted) → value w ≡ x → LookKind place x
+    pub look_known : (m : Met) (w : ℕ) (place : Place) (x : NatValue) (n : Noted) → value w ≡ x → LookKind place x
         → w < 2 + 2 * s.shards → var_of s place n ≡ w → KnownAt s m p place n
         → KnownAt s (met_by_read value x m) p (looked place x n).place (looked place x n).noted
     look_known m w _ _ n is (finds_endpoint bs) low at k =

@@ -143,7 +143,7 @@ module _ (s : Settings) (is : AreSettings s) where
       by false false d p q r e (inr (inr comes)) = differs dest s.outside q comes.1
 
   module _ (error : IcmpError) (low : AreSmall error) where
-    error_class : (c : Class) → class_of_error s error ≡ Some c → ErrorOf s error c
+    pub error_class : (c : Class) → class_of_error s error ≡ Some c → ErrorOf s error c
     error_class c e =
         by (is_inside s error.source) (error.dest == s.outside) (is_inside s error.dest) (is_inside s error.quoted_dest)
         (error.quoted_source == s.outside) refl refl refl refl refl e

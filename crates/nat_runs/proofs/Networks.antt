@@ -32,7 +32,7 @@ use Rattle.nat_runs.proofs.TableEntries.{lives_is}
 use Rattle.nat_runs.proofs.Refreshing.{hosts_refresh}
 use Rattle.nat_runs.proofs.StaticSources.{only_they_start}
 use Rattle.nat_runs.proofs.NetworkClasses.{in_network, class_by, FlowOf, ErrorOf, flow_class, SeenFlow, SeenError}
-use Rattle.nat_runs.proofs.NetworkClasses.{SeenNeither, seen_is, flow_small, error_small}
+use Rattle.nat_runs.proofs.NetworkClasses.{SeenNeither, seen_is, flow_small, error_small, error_class}
 
 -- Mappings
 
