@@ -1,3 +1,4 @@
+pub mod Fronts
 pub mod ImageVerdicts
 pub mod JudgedTexts
 pub mod OneAnswer
