@@ -26,13 +26,15 @@ use Rattle.recovery_world.specs.Many.{OnAny}
 use Rattle.recovery_world.specs.Files.{Leaves}
 use Rattle.recovery_laws.proofs.Settlings.{script_settled}
 use Rattle.nat_box.specs.declared.value.NatValue.{NatValue}
+use Rattle.nat_box.specs.declared.settings.NatSettings.{NatSettings}
 use Rattle.nat_box.specs.Nat as nat
-use Rattle.nat_box.specs.Lawful as lawful_nat
+use Rattle.nat_box.specs.Settings as nat_settings
 use Rattle.nat_runs.specs.Passing.{counted_by_what, counted_by, counted_of, waits}
 use Rattle.nat_runs.proofs.Passing.{each_passes}
 use Rattle.balancer_box.specs.declared.value.BalancerValue.{BalancerValue}
+use Rattle.balancer_box.specs.declared.settings.BalancerSettings.{BalancerSettings}
 use Rattle.balancer_box.specs.Balancer as balancer
-use Rattle.balancer_box.specs.Lawful as lawful_balancer
+use Rattle.balancer_box.specs.Settings as balancer_settings
 use Rattle.balancer_runs.specs.Packets.{outcomes_by, outcomes}
 use Rattle.balancer_runs.proofs.Settling.{each_has_one}
 use Rattle.box_worlds.specs.Worlds.{IsLedTo}
@@ -92,7 +94,7 @@ all_counted : (t : ℕ) (steps : List (Step NatValue)) → drops_of t steps ≡ 
 all_counted t [] = refl
 all_counted t (x ∷ earlier) = rw (act_counted x.act, all_counted t earlier) refl
 
-nat_rests : (n : nat.Settings) → lawful_nat.AreSettings n → (threads : ℕ) (inputs : ℕ → List Packet)
+nat_rests : (n : NatSettings) → nat_settings.AreSettings n → (threads : ℕ) (inputs : ℕ → List Packet)
     (steps : List (Step NatValue)) → IsHistory (nat.nat_meaning n) inputs threads steps → (t : ℕ)
     → (thread_after steps t).hand ≡ None → all_went t steps ≡ (thread_after steps t).taken
 nat_rests n is threads inputs steps h t none =
@@ -100,7 +102,7 @@ nat_rests n is threads inputs steps h t none =
     let waiting : waits (thread_after steps t).hand ≡ 0 = ap waits none in
     let counted = all_counted t steps in omega (arith, passed, waiting, counted)
 
-pub nat_flow : (n : nat.Settings) (s : Setting NatValue) (w new : World NatValue) (count : ℕ) (to : Outcome)
+pub nat_flow : (n : NatSettings) (s : Setting NatValue) (w new : World NatValue) (count : ℕ) (to : Outcome)
     (freed : List Sent) → IsNat n s → IsLedTo s w → w.up ≡ true → OnAny s w (Flow count) to freed new
     → LeftOrCounted s.threads (inputs_fed s new.fed) new.released new.past
 nat_flow n s w new count to freed is led up on =
@@ -108,7 +110,7 @@ nat_flow n s w new count to freed is led up on =
     (behind_rests s (nat.nat_meaning n) is.1
     (λ inputs steps h t none. nat_rests n is.0 s.threads inputs steps h t none) (inputs_fed s new.fed))
 
-pub nat_left_or_counted : (n : nat.Settings) (s : Setting NatValue) (events : List Event) (report : List ℕ)
+pub nat_left_or_counted : (n : NatSettings) (s : Setting NatValue) (events : List Event) (report : List ℕ)
     (released : List Packet) (schedule : List PlainMove) → IsNat n s
     → (l : Leaves s (events ++ Settle ∷ []) report released schedule)
     → LeftOrCounted s.threads (all_inputs s) l.world.released l.steps
@@ -173,7 +175,7 @@ ended_act : (t taken : ℕ) (A : List (Step BalancerValue)) (d : Effect Balancer
     → a ≡ act_of t A taken d → d ≡ Ends → a ≡ Ended taken
 ended_act t taken A d a is ends = is ∙ ap (λ (e : Effect BalancerValue). act_of t A taken e) ends
 
-module _ (b : balancer.Settings) (is : lawful_balancer.AreSettings b) (threads : ℕ) (inputs : ℕ → List Packet) where
+module _ (b : BalancerSettings) (is : balancer_settings.AreSettings b) (threads : ℕ) (inputs : ℕ → List Packet) where
   abbrev RunTells : ℕ → List (Step BalancerValue) → Type 0
   RunTells t steps =
       Tells (thread_after steps t).hand (thread_after steps t).taken (all_went t steps) (outcomes t steps)
@@ -238,7 +240,7 @@ module _ (b : balancer.Settings) (is : lawful_balancer.AreSettings b) (threads :
       subst (λ (hand : Option Hand). Tells hand (thread_after steps t).taken (all_went t steps) (outcomes t steps)) none
       (run_tells steps h t)
 
-pub balancer_left_or_counted : (b : balancer.Settings) (s : Setting BalancerValue) (events : List Event)
+pub balancer_left_or_counted : (b : BalancerSettings) (s : Setting BalancerValue) (events : List Event)
     (report : List ℕ) (released : List Packet) (schedule : List PlainMove) → IsBalancer b s
     → (l : Leaves s (events ++ Settle ∷ []) report released schedule)
     → LeftOrCounted s.threads (all_inputs s) l.world.released l.steps
@@ -246,7 +248,7 @@ balancer_left_or_counted b s events report released schedule is l =
     settled_so (balancer.balancer_meaning b) s events report released schedule is.1
     (λ inputs steps h t none. balancer_rests b is.0 s.threads inputs steps h t none) l
 
-pub balancer_flow : (b : balancer.Settings) (s : Setting BalancerValue) (w new : World BalancerValue) (count : ℕ)
+pub balancer_flow : (b : BalancerSettings) (s : Setting BalancerValue) (w new : World BalancerValue) (count : ℕ)
     (to : Outcome) (freed : List Sent) → IsBalancer b s → IsLedTo s w → w.up ≡ true
     → OnAny s w (Flow count) to freed new → LeftOrCounted s.threads (inputs_fed s new.fed) new.released new.past
 balancer_flow b s w new count to freed is led up on =

@@ -14,10 +14,12 @@ use Rattle.recovery_world.specs.World.{Setting, Sent, all_inputs}
 use Rattle.recovery_world.specs.Files.{Leaves}
 use Rattle.recovery_laws.proofs.Settlings.{script_settled}
 use Rattle.nat_box.specs.declared.value.NatValue.{NatValue}
+use Rattle.nat_box.specs.declared.settings.NatSettings.{NatSettings}
 use Rattle.nat_box.specs.Nat as nat
 use Rattle.nat_runs.specs.Passing.{taken_by, taken_in, drops_in}
 use Rattle.nat_runs.proofs.Passing.{none_vanishes_at_rest}
 use Rattle.balancer_box.specs.declared.value.BalancerValue.{BalancerValue}
+use Rattle.balancer_box.specs.declared.settings.BalancerSettings.{BalancerSettings}
 use Rattle.balancer_box.specs.Balancer as balancer
 use Rattle.balancer_runs.specs.Packets as counting
 use Rattle.balancer_runs.proofs.Vanishing as vanishing
@@ -77,7 +79,7 @@ nat_takes (x ∷ earlier) = by x.act (nat_takes earlier)
     by (Emitted o) old = omega arith
     by (Ended k) old = omega arith
 
-pub nat_counts : (n : nat.Settings) (s : Setting NatValue) (events : List Event) (report : List ℕ)
+pub nat_counts : (n : NatSettings) (s : Setting NatValue) (events : List Event) (report : List ℕ)
     (released : List Packet) (schedule : List PlainMove) → IsNat n s → 1 ≤ s.threads
     → (l : Leaves s (events ++ Settle ∷ []) report released schedule)
     → (length released + drops_in (value_after s.meaning l.steps 0)) % 2 ^ 64 ≡ length s.packets % 2 ^ 64
@@ -114,7 +116,7 @@ balancer_sent (x ∷ earlier) = by x.act (balancer_sent earlier)
     by (Emitted o) old = omega arith
     by (Ended k) old = omega arith
 
-pub balancer_counts : (b : balancer.Settings) (s : Setting BalancerValue) (events : List Event) (report : List ℕ)
+pub balancer_counts : (b : BalancerSettings) (s : Setting BalancerValue) (events : List Event) (report : List ℕ)
     (released : List Packet) (schedule : List PlainMove) → IsBalancer b s → 1 ≤ s.threads
     → (l : Leaves s (events ++ Settle ∷ []) report released schedule)
     → (length released + sum (counting.drop_counts (value_after s.meaning l.steps 0))) % 2 ^ 64

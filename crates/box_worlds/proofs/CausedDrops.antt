@@ -17,9 +17,11 @@ use Rattle.tagged_box.proofs.InputBytes.{input_bytes}
 use Rattle.flow_boxes.specs.Flows.{HaveBytes}
 use Rattle.recovery_world.specs.World.{Setting, World, inputs_fed}
 use Rattle.nat_box.specs.declared.value.NatValue.{NatValue}
+use Rattle.nat_box.specs.declared.settings.NatSettings.{NatSettings}
 use Rattle.nat_box.specs.Nat as nat
 use Rattle.nat_runs.proofs.Causes.{drops_have_causes}
 use Rattle.balancer_box.specs.declared.value.BalancerValue.{BalancerValue}
+use Rattle.balancer_box.specs.declared.settings.BalancerSettings.{BalancerSettings}
 use Rattle.balancer_box.specs.Balancer as balancer
 use Rattle.balancer_runs.proofs.DropCauses.{drops_have}
 use Rattle.box_worlds.specs.Worlds.{IsLedTo, IsOfWorld}
@@ -71,7 +73,7 @@ drops_caused s m Caused law is bytes w steps led of x earlier entry left place e
       subst (λ (p : Packet). Caused x.thread (steps_behind s.tags earlier) p r.1) g.2 r.3,
     )
 
-pub nat_drops : (n : nat.Settings) (s : Setting NatValue) (w : World NatValue) (steps : List (Step NatValue))
+pub nat_drops : (n : NatSettings) (s : Setting NatValue) (w : World NatValue) (steps : List (Step NatValue))
     → IsNat n s → All IsOfBytes s.packets → IsLedTo s w → IsOfWorld s w steps → DropsAreCaused s w (NatCause n) steps
 nat_drops n s w steps is bytes led of =
     drops_caused s (nat.nat_meaning n) (NatCause n)
@@ -79,7 +81,7 @@ nat_drops n s w steps is bytes led of =
     let r = drops_have_causes n s.threads inputs x earlier entry (Some left) place is.0 have h act what in
     (r.0, r.2, r.3, r.6)) is.1 bytes w steps led of
 
-pub balancer_drops : (b : balancer.Settings) (s : Setting BalancerValue) (w : World BalancerValue)
+pub balancer_drops : (b : BalancerSettings) (s : Setting BalancerValue) (w : World BalancerValue)
     (steps : List (Step BalancerValue)) → IsBalancer b s → All IsOfBytes s.packets → IsLedTo s w → IsOfWorld s w steps
     → DropsAreCaused s w (BalancerCause b) steps
 balancer_drops b s w steps is bytes led of =

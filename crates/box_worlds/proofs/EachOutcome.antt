@@ -23,9 +23,9 @@ use Rattle.recovery_world.specs.Files.{Leaves}
 use Rattle.recovery_laws.proofs.Worlds.{fed_found}
 use Rattle.settled_boxes.specs.EachOnce.{times_sent}
 use Rattle.nat_box.specs.declared.value.NatValue.{NatValue}
-use Rattle.nat_box.specs.Nat as nat
+use Rattle.nat_box.specs.declared.settings.NatSettings.{NatSettings}
 use Rattle.balancer_box.specs.declared.value.BalancerValue.{BalancerValue}
-use Rattle.balancer_box.specs.Balancer as balancer
+use Rattle.balancer_box.specs.declared.settings.BalancerSettings.{BalancerSettings}
 use Rattle.box_worlds.specs.Worlds.{IsLedTo, Performed}
 use Rattle.box_worlds.specs.Boxes.{IsNat, IsBalancer}
 use Rattle.box_worlds.specs.Outcomes.{drops_by, drops_with, LeftOrCounted}
@@ -192,7 +192,7 @@ module _ {V : Type 0} (s : Setting V) (w : World V) (steps : List (Step V))
       by (inl r) = inl (was_released t k r.0 r.1)
       by (inr r) = inr (was_counted t k p given r.0 r.1)
 
-pub nat_outcomes : (n : nat.Settings) (s : Setting NatValue) (events : List Event) (report : List ℕ)
+pub nat_outcomes : (n : NatSettings) (s : Setting NatValue) (events : List Event) (report : List ℕ)
     (released : List Packet) (schedule : List PlainMove) → IsNat n s → All IsOfBytes s.packets
     → (l : Leaves s (events ++ Settle ∷ []) report released schedule)
     → EachHasOneOutcome s l.world l.steps (Translated n) (NatCause n)
@@ -203,7 +203,7 @@ nat_outcomes n s events report released schedule is bytes l =
     (λ o among. nat_translated n s l.world o l.steps is bytes led among l.finish)
     (nat_drops n s l.world l.steps is bytes led (inr (inr (inr l.finish))))
 
-pub balancer_outcomes : (b : balancer.Settings) (s : Setting BalancerValue) (events : List Event) (report : List ℕ)
+pub balancer_outcomes : (b : BalancerSettings) (s : Setting BalancerValue) (events : List Event) (report : List ℕ)
     (released : List Packet) (schedule : List PlainMove) → IsBalancer b s → All IsOfBytes s.packets
     → (l : Leaves s (events ++ Settle ∷ []) report released schedule)
     → EachHasOneOutcome s l.world l.steps (SentOn b) (BalancerCause b)

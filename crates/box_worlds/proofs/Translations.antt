@@ -23,14 +23,16 @@ use Rattle.recovery_world.specs.Events.{IsAmong}
 use Rattle.recovery_world.specs.Finish.{IsFinish}
 use Rattle.recovery_laws.proofs.Finishes.{finish_ends}
 use Rattle.nat_box.specs.declared.value.NatValue.{NatValue}
+use Rattle.nat_box.specs.declared.settings.NatSettings.{NatSettings}
 use Rattle.nat_box.specs.Nat as nat
 use Rattle.nat_box.proofs.Emissions.{emissions_translate}
 use Rattle.nat_box.specs.Emissions as nat_emissions
-use Rattle.nat_box.specs.Lawful as lawful_nat
+use Rattle.nat_box.specs.Settings as nat_settings
 use Rattle.balancer_box.specs.declared.value.BalancerValue.{BalancerValue}
+use Rattle.balancer_box.specs.declared.settings.BalancerSettings.{BalancerSettings}
 use Rattle.balancer_box.specs.Balancer as balancer
 use Rattle.balancer_box.specs.Emissions as balancer_emissions
-use Rattle.balancer_box.specs.Lawful as lawful_balancer
+use Rattle.balancer_box.specs.Settings as balancer_settings
 use Rattle.balancer_box.proofs.Emissions.{emissions_follow}
 use Rattle.settled_boxes.proofs.SteeredSums.{inputs_have_bytes}
 use Rattle.box_worlds.specs.Worlds.{IsLedTo}
@@ -126,25 +128,25 @@ module _ {V : Type 0} (s : Setting V) (m : Meaning V) (SentAs : ℕ → List (St
             packet = r.4;
           }
 
-nat_makes : (n : nat.Settings) → lawful_nat.AreSettings n → (threads : ℕ)
+nat_makes : (n : NatSettings) → nat_settings.AreSettings n → (threads : ℕ)
     → Makes (nat.nat_meaning n) threads (Translated n)
 nat_makes n is threads inputs x earlier o p bytes h act given =
     subst (nat_emissions.IsTranslationOf n (nat_emissions.trail_of n x.thread earlier) o.packet.bytes) given
     (emissions_translate n threads inputs x earlier o is bytes h act).1
 
-pub nat_translated : (n : nat.Settings) (s : Setting NatValue) (w : World NatValue) (o : Sent)
+pub nat_translated : (n : NatSettings) (s : Setting NatValue) (w : World NatValue) (o : Sent)
     (run : List (Step NatValue)) → IsNat n s → All IsOfBytes s.packets → IsLedTo s w → IsAmong o w.released
     → IsFinish s w run → IsMadeOfInput s w o (Translated n) run
 nat_translated n s w o run is bytes led among finish =
     made_of_input s (nat.nat_meaning n) (Translated n) (nat_makes n is.0 s.threads) is.1 w o run bytes led among finish
 
-balancer_makes : (b : balancer.Settings) → lawful_balancer.AreSettings b → (threads : ℕ)
+balancer_makes : (b : BalancerSettings) → balancer_settings.AreSettings b → (threads : ℕ)
     → Makes (balancer.balancer_meaning b) threads (SentOn b)
 balancer_makes b is threads inputs x earlier o p bytes h act given =
     subst (balancer_emissions.IsSentOnOf b (balancer_emissions.trail_of b x.thread earlier) o.packet.bytes) given
     (emissions_follow b threads inputs x earlier o is bytes h act).1
 
-pub balancer_sent_on : (b : balancer.Settings) (s : Setting BalancerValue) (w : World BalancerValue) (o : Sent)
+pub balancer_sent_on : (b : BalancerSettings) (s : Setting BalancerValue) (w : World BalancerValue) (o : Sent)
     (run : List (Step BalancerValue)) → IsBalancer b s → All IsOfBytes s.packets → IsLedTo s w → IsAmong o w.released
     → IsFinish s w run → IsMadeOfInput s w o (SentOn b) run
 balancer_sent_on b s w o run is bytes led among finish =

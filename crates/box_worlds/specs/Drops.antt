@@ -9,11 +9,11 @@ use Rattle.tagged_frames.specs.Tags.{behind_tag}
 use Rattle.tagged_box.specs.Tags.{steps_behind}
 use Rattle.recovery_world.specs.World.{Setting, World, inputs_fed}
 use Rattle.nat_box.specs.declared.value.NatValue.{NatValue}
-use Rattle.nat_box.specs.Nat as nat
+use Rattle.nat_box.specs.declared.settings.NatSettings.{NatSettings}
 use Rattle.nat_runs.specs.Met.{met_of}
 use Rattle.nat_runs.specs.Causes as nat_causes
 use Rattle.balancer_box.specs.declared.value.BalancerValue.{BalancerValue}
-use Rattle.balancer_box.specs.Balancer as balancer
+use Rattle.balancer_box.specs.declared.settings.BalancerSettings.{BalancerSettings}
 use Rattle.balancer_box.specs.Emissions.{trail_of}
 use Rattle.balancer_runs.specs.Causes as balancer_causes
 
@@ -29,8 +29,8 @@ DropsAreCaused {V} s w Caused steps =
     × (slice_get (inputs_fed s w.fed x.thread) k ≡ Some p)
     × Caused x.thread (steps_behind s.tags earlier) (behind_tag s.tags p) reason
 
-abbrev pub NatCause : nat.Settings → ℕ → List (Step NatValue) → Packet → ℕ → Type 0
+abbrev pub NatCause : NatSettings → ℕ → List (Step NatValue) → Packet → ℕ → Type 0
 NatCause n t earlier p reason = nat_causes.Cause n p (met_of n t earlier) reason
 
-abbrev pub BalancerCause : balancer.Settings → ℕ → List (Step BalancerValue) → Packet → ℕ → Type 0
+abbrev pub BalancerCause : BalancerSettings → ℕ → List (Step BalancerValue) → Packet → ℕ → Type 0
 BalancerCause b t earlier p reason = balancer_causes.HasCause b (trail_of b t earlier) p reason

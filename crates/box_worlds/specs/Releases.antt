@@ -7,10 +7,10 @@ use Rattle.plain_machine.specs.Agree.{IsEarlier}
 use Rattle.tagged_box.specs.Tags.{steps_behind}
 use Rattle.recovery_world.specs.World.{Setting, Sent, World, inputs_fed}
 use Rattle.nat_box.specs.declared.value.NatValue.{NatValue}
-use Rattle.nat_box.specs.Nat as nat
+use Rattle.nat_box.specs.declared.settings.NatSettings.{NatSettings}
 use Rattle.nat_box.specs.Emissions as nat_emissions
 use Rattle.balancer_box.specs.declared.value.BalancerValue.{BalancerValue}
-use Rattle.balancer_box.specs.Balancer as balancer
+use Rattle.balancer_box.specs.declared.settings.BalancerSettings.{BalancerSettings}
 use Rattle.balancer_box.specs.Emissions as balancer_emissions
 
 -- Each run in which the world ends sends the packet o. It is made of the input that it names, one of the packets that
@@ -30,9 +30,9 @@ pub record IsMadeOfInput {V : Type 0} (s : Setting V) (w : World V) (o : Sent)
   pub packet : o.emission.packet ≡ with_behind s.tags input bytes
 
 -- the NAT's translation of the packet, by what its moves met
-abbrev pub Translated : nat.Settings → ℕ → List (Step NatValue) → List ℕ → Packet → Type 0
+abbrev pub Translated : NatSettings → ℕ → List (Step NatValue) → List ℕ → Packet → Type 0
 Translated n t earlier bytes p = nat_emissions.IsTranslationOf n (nat_emissions.trail_of n t earlier) bytes (Some p)
 
 -- the packet on its way to its connection's backend, or back to its client
-abbrev pub SentOn : balancer.Settings → ℕ → List (Step BalancerValue) → List ℕ → Packet → Type 0
+abbrev pub SentOn : BalancerSettings → ℕ → List (Step BalancerValue) → List ℕ → Packet → Type 0
 SentOn b t earlier bytes p = balancer_emissions.IsSentOnOf b (balancer_emissions.trail_of b t earlier) bytes (Some p)

@@ -18,7 +18,7 @@ ghost use Rattle.recovery_world.specs.Many.{OnAny};
 ghost use Rattle.recovery_world.specs.Files.{Leaves};
 ghost use Rattle.nat_box.specs.declared.settings.StaticPort.{StaticPort};
 ghost use Rattle.nat_box.specs.declared.value.NatValue.{NatValue};
-ghost use Rattle.nat_box.specs.Nat as nat;
+ghost use Rattle.nat_box.specs.declared.settings.NatSettings.{NatSettings};
 ghost use Rattle.nat_box.specs.Statics.{kept, IsStatic};
 ghost use Rattle.nat_box.specs.Sentences.{HaveOneEndpoint, HaveOneMapping};
 ghost use Rattle.nat_box.specs.PortStanding as ports;
@@ -29,7 +29,7 @@ ghost use Rattle.nat_runs.specs.StaticPorts.{Stands};
 ghost use Rattle.nat_runs.specs.Limits.{mappings_of, statics_of};
 ghost use Rattle.nat_runs.specs.Passing.{drops_in};
 ghost use Rattle.balancer_box.specs.declared.value.BalancerValue.{BalancerValue};
-ghost use Rattle.balancer_box.specs.Balancer as balancer;
+ghost use Rattle.balancer_box.specs.declared.settings.BalancerSettings.{BalancerSettings};
 ghost use Rattle.balancer_box.specs.Charges as charges;
 ghost use Rattle.balancer_box.specs.Charges.{load_in, connections_of, IsCharged};
 ghost use Rattle.balancer_runs.specs.Packets.{drop_counts};
@@ -72,26 +72,26 @@ pub fn histories_hold_over_crashes<X>()
 /// one, stands in exactly one place: free, in one mapping, or with one packet in hand (`ports`). So
 /// after a script that ends in a settling it is free or in one mapping (`settled_ports`).
 pub fn nat_tables_hold_over_crashes()
-    ensures one_endpoint { (n : nat.Settings) (s : Setting NatValue) (w : World NatValue)
+    ensures one_endpoint { (n : NatSettings) (s : Setting NatValue) (w : World NatValue)
         (steps : List (Step NatValue)) → IsNat n s → IsLedTo s w → IsOfWorld s w steps
         → HaveOneEndpoint n (value_after s.meaning steps) }
-    ensures one_mapping { (n : nat.Settings) (s : Setting NatValue) (w : World NatValue)
+    ensures one_mapping { (n : NatSettings) (s : Setting NatValue) (w : World NatValue)
         (steps : List (Step NatValue)) → IsNat n s → IsLedTo s w → IsOfWorld s w steps
         → HaveOneMapping n (value_after s.meaning steps) }
-    ensures static_ports { (n : nat.Settings) (s : Setting NatValue) (w : World NatValue)
+    ensures static_ports { (n : NatSettings) (s : Setting NatValue) (w : World NatValue)
         (steps : List (Step NatValue)) (p : StaticPort) → IsNat n s → IsLedTo s w
         → IsOfWorld s w steps → IsStatic p (kept n.statics)
         → Stands n (value_after s.meaning steps) p }
-    ensures limits { (n : nat.Settings) (s : Setting NatValue) (w : World NatValue)
+    ensures limits { (n : NatSettings) (s : Setting NatValue) (w : World NatValue)
         (steps : List (Step NatValue)) (most protocol address : ℕ) → IsNat n s → IsLedTo s w
         → IsOfWorld s w steps → n.limit ≡ Some most
         → mappings_of n (value_after s.meaning steps) protocol address
         ≤ max most (statics_of protocol address (kept n.statics)) }
-    ensures ports { (n : nat.Settings) (s : Setting NatValue) (w : World NatValue)
+    ensures ports { (n : NatSettings) (s : Setting NatValue) (w : World NatValue)
         (steps : List (Step NatValue)) (port : PortKey) (key : Endpoint) → IsNat n s
         → IsLedTo s w → IsOfWorld s w steps
         → ports.Stands n s.threads (steps_behind s.tags steps) port key }
-    ensures settled_ports { (n : nat.Settings) (s : Setting NatValue) (events : List Event)
+    ensures settled_ports { (n : NatSettings) (s : Setting NatValue) (events : List Event)
         (report : List ℕ) (released : List Packet) (schedule : List PlainMove) (port : PortKey)
         → IsNat n s → (l : Leaves s (events ++ Settle ∷ []) report released schedule)
         → in_values n (free_at port) (value_after s.meaning l.steps)
@@ -104,12 +104,12 @@ pub fn nat_tables_hold_over_crashes()
 /// hand owe it (`charges`). So after a script that ends in a settling it is the number of these
 /// connections (`settled`).
 pub fn balancer_loads_hold_over_crashes()
-    ensures charges { (b : balancer.Settings) (s : Setting BalancerValue) (w : World BalancerValue)
+    ensures charges { (b : BalancerSettings) (s : Setting BalancerValue) (w : World BalancerValue)
         (steps : List (Step BalancerValue)) (backend : ℕ) → IsBalancer b s → IsLedTo s w
         → IsOfWorld s w steps → backend < length b.backends
         → IsCharged b s.threads backend (value_after s.meaning steps)
         (thread_after (steps_behind s.tags steps)) }
-    ensures settled { (b : balancer.Settings) (s : Setting BalancerValue) (events : List Event)
+    ensures settled { (b : BalancerSettings) (s : Setting BalancerValue) (events : List Event)
         (report : List ℕ) (released : List Packet) (schedule : List PlainMove) (backend : ℕ)
         → IsBalancer b s → backend < length b.backends
         → (l : Leaves s (events ++ Settle ∷ []) report released schedule)
@@ -122,10 +122,10 @@ pub fn balancer_loads_hold_over_crashes()
 /// the world ends; and of the balancer, that input on its way to its connection's backend, or back
 /// to its client.
 pub fn released_packets_are_translations()
-    ensures nat { (n : nat.Settings) (s : Setting NatValue) (w : World NatValue) (o : Sent)
+    ensures nat { (n : NatSettings) (s : Setting NatValue) (w : World NatValue) (o : Sent)
         (run : List (Step NatValue)) → IsNat n s → All IsOfBytes s.packets → IsLedTo s w
         → IsAmong o w.released → IsFinish s w run → IsMadeOfInput s w o (Translated n) run }
-    ensures balancer { (b : balancer.Settings) (s : Setting BalancerValue) (w : World BalancerValue)
+    ensures balancer { (b : BalancerSettings) (s : Setting BalancerValue) (w : World BalancerValue)
         (o : Sent) (run : List (Step BalancerValue)) → IsBalancer b s → All IsOfBytes s.packets
         → IsLedTo s w → IsAmong o w.released → IsFinish s w run
         → IsMadeOfInput s w o (SentOn b) run }
@@ -135,10 +135,10 @@ pub fn released_packets_are_translations()
 /// an input that has a cause for it, in what it met: a drop of the master, of its snapshots and of
 /// each run in which the world ends.
 pub fn drops_have_causes_over_crashes()
-    ensures nat { (n : nat.Settings) (s : Setting NatValue) (w : World NatValue)
+    ensures nat { (n : NatSettings) (s : Setting NatValue) (w : World NatValue)
         (steps : List (Step NatValue)) → IsNat n s → All IsOfBytes s.packets → IsLedTo s w
         → IsOfWorld s w steps → DropsAreCaused s w (NatCause n) steps }
-    ensures balancer { (b : balancer.Settings) (s : Setting BalancerValue) (w : World BalancerValue)
+    ensures balancer { (b : BalancerSettings) (s : Setting BalancerValue) (w : World BalancerValue)
         (steps : List (Step BalancerValue)) → IsBalancer b s → All IsOfBytes s.packets
         → IsLedTo s w → IsOfWorld s w steps → DropsAreCaused s w (BalancerCause b) steps }
 {}
@@ -152,28 +152,28 @@ pub fn drops_have_causes_over_crashes()
 /// released capture, and those that the box's own counts of drops have, are all packets of the
 /// capture, modulo 2^64 (`nat_counts`, `balancer_counts`).
 pub fn settled_packets_left_or_were_counted()
-    ensures nat { (n : nat.Settings) (s : Setting NatValue) (events : List Event)
+    ensures nat { (n : NatSettings) (s : Setting NatValue) (events : List Event)
         (report : List ℕ) (released : List Packet) (schedule : List PlainMove) → IsNat n s
         → (l : Leaves s (events ++ Settle ∷ []) report released schedule)
         → LeftOrCounted s.threads (all_inputs s) l.world.released l.steps }
-    ensures balancer { (b : balancer.Settings) (s : Setting BalancerValue) (events : List Event)
+    ensures balancer { (b : BalancerSettings) (s : Setting BalancerValue) (events : List Event)
         (report : List ℕ) (released : List Packet) (schedule : List PlainMove) → IsBalancer b s
         → (l : Leaves s (events ++ Settle ∷ []) report released schedule)
         → LeftOrCounted s.threads (all_inputs s) l.world.released l.steps }
-    ensures nat_flow { (n : nat.Settings) (s : Setting NatValue) (w new : World NatValue)
+    ensures nat_flow { (n : NatSettings) (s : Setting NatValue) (w new : World NatValue)
         (count : ℕ) (to : Outcome) (freed : List Sent) → IsNat n s → IsLedTo s w → w.up ≡ true
         → OnAny s w (Flow count) to freed new
         → LeftOrCounted s.threads (inputs_fed s new.fed) new.released new.past }
-    ensures balancer_flow { (b : balancer.Settings) (s : Setting BalancerValue)
+    ensures balancer_flow { (b : BalancerSettings) (s : Setting BalancerValue)
         (w new : World BalancerValue) (count : ℕ) (to : Outcome) (freed : List Sent)
         → IsBalancer b s → IsLedTo s w → w.up ≡ true → OnAny s w (Flow count) to freed new
         → LeftOrCounted s.threads (inputs_fed s new.fed) new.released new.past }
-    ensures nat_counts { (n : nat.Settings) (s : Setting NatValue) (events : List Event)
+    ensures nat_counts { (n : NatSettings) (s : Setting NatValue) (events : List Event)
         (report : List ℕ) (released : List Packet) (schedule : List PlainMove) → IsNat n s
         → 1 ≤ s.threads → (l : Leaves s (events ++ Settle ∷ []) report released schedule)
         → (length released + drops_in (value_after s.meaning l.steps 0)) % 2 ^ 64
         ≡ length s.packets % 2 ^ 64 }
-    ensures balancer_counts { (b : balancer.Settings) (s : Setting BalancerValue)
+    ensures balancer_counts { (b : BalancerSettings) (s : Setting BalancerValue)
         (events : List Event) (report : List ℕ) (released : List Packet)
         (schedule : List PlainMove) → IsBalancer b s → 1 ≤ s.threads
         → (l : Leaves s (events ++ Settle ∷ []) report released schedule)
@@ -185,12 +185,12 @@ pub fn settled_packets_left_or_were_counted()
 /// the capture was released exactly once, as the box translates it, and never counted as dropped;
 /// or it was counted exactly once, for a cause that it has, and never released.
 pub fn each_packet_has_one_outcome()
-    ensures nat { (n : nat.Settings) (s : Setting NatValue) (events : List Event)
+    ensures nat { (n : NatSettings) (s : Setting NatValue) (events : List Event)
         (report : List ℕ) (released : List Packet) (schedule : List PlainMove) → IsNat n s
         → All IsOfBytes s.packets
         → (l : Leaves s (events ++ Settle ∷ []) report released schedule)
         → EachHasOneOutcome s l.world l.steps (Translated n) (NatCause n) }
-    ensures balancer { (b : balancer.Settings) (s : Setting BalancerValue) (events : List Event)
+    ensures balancer { (b : BalancerSettings) (s : Setting BalancerValue) (events : List Event)
         (report : List ℕ) (released : List Packet) (schedule : List PlainMove) → IsBalancer b s
         → All IsOfBytes s.packets
         → (l : Leaves s (events ++ Settle ∷ []) report released schedule)
