@@ -1,6 +1,5 @@
 use Rattle.std.proofs.Common.{◌≡◌, ◌∙◌, List, ℕ, ap, subst, sym}
 use Rattle.plain_text.specs.declared.limit.TheConstants.{MOST_FILE_BYTES}
-use Rattle.world_io.specs.Beginning.{IsFront}
 use Rattle.input_files.proofs.Fronts.{front_judged, some_taken}
 use Rattle.input_files.proofs.texts.read_front_of.Goals as goal
 
@@ -14,9 +13,7 @@ returns-clause-judged g c = λ p h.
     let left = ap (λ w. (g.W.World.shows p w).left c.of-source.result.file) c.of-source.ensures.world
     ∙ ap (λ (file : ℕ). (g.W.World.shows p c.open_file.new.self).left file) c.of-source.ensures.file in
     front_judged _ (g.W.World.healthy c.args.world.now) c.args.name.now (g.W.World.shows p c.args.world.now)
-    c.read_front.result _ _ _ _ c.read_front.ensures.reads
-    (subst (λ (bytes : List ℕ). IsFront c.read_front.result MOST_FILE_BYTES bytes _) left
-    (c.read_front.ensures.ends p here)) opened.left
+    c.read_front.result _ _ _ _ _ c.read_front.ensures.reads (c.read_front.ensures.ends p here) left opened.left
     (λ failed healthy.
     let kept =
     subst (λ w. g.W.World.healthy w) (sym c.of-source.ensures.world) (c.in-Ok.ensures.stays_healthy healthy) in
