@@ -48,7 +48,9 @@ never_watch (a ∷ b ∷ c ∷ []) lives watch = lives refl
 never_watch (a ∷ b ∷ c ∷ d ∷ []) lives watch = lives refl
 never_watch (a ∷ b ∷ c ∷ d ∷ e ∷ []) lives watch = lives refl
 never_watch (a ∷ b ∷ c ∷ d ∷ e ∷ f ∷ []) lives watch = lives refl
-never_watch (command ∷ b ∷ c ∷ d ∷ e ∷ f ∷ g ∷ []) lives watch = not_watch command _ lives watch
+never_watch (command ∷ b ∷ c ∷ d ∷ e ∷ f ∷ g ∷ []) lives watch =
+    not_watch command
+    (record { box_file = b; capture = c; plan = d; released = e; schedule = f; script = g }) lives watch
 never_watch (a ∷ b ∷ c ∷ d ∷ e ∷ f ∷ g ∷ h ∷ more) lives watch = lives refl
 
 module _ {W : Type 0} (honest : Start → W → Type 0) (shows : Start → W → Shown) (ledger : W → Ledger)

@@ -92,11 +92,11 @@ returns-in-Taps-clause-no_command g c no_tap asked text watch =
     absurd (plain_taps c.args.words.now no_tap c.in-Taps.pairs c.in-Taps.ensures.0)
 
 pub run_tapped-requires-clause-asks : goal.run_tapped-requires-clause-asks
-run_tapped-requires-clause-asks g c κs within = c.in-Taps.ensures.0
+run_tapped-requires-clause-asks g c = c.in-Taps.ensures.0
 
 pub run_plain-requires-clause-no_rounds : goal.run_plain-requires-clause-no_rounds
-run_plain-requires-clause-no_rounds g c κs within = c.requires.no_rounds.plain c.in-Plain.ensures
+run_plain-requires-clause-no_rounds g c = c.requires.no_rounds.plain c.in-Plain.ensures
 
 pub run_tapped-requires-clause-no_rounds : goal.run_tapped-requires-clause-no_rounds
-run_tapped-requires-clause-no_rounds g c κs within =
+run_tapped-requires-clause-no_rounds g c =
     c.requires.no_rounds.tapped c.in-Taps.pairs c.in-Taps.ensures.0
