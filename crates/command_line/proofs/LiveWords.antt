@@ -4,7 +4,7 @@ use Rattle.std.proofs.Common.{◌≡◌, ◌⊎◌, ℕ, List, [], ◌∷◌, Bo
 use Rattle.std.proofs.Common.{subst}
 use Rattle.std.proofs.Common.{sym, ◌∙◌}
 use Rattle.std.proofs.lemmas.Slice.Eq.{bytes_eq-Decides}
-use Rattle.std.specs.Prelude.{◌&&◌, if◌then◌else◌, codes}
+use Rattle.std.specs.Prelude.{◌&&◌, if◌then◌else◌, codes, is_some, MatchOption}
 use Rattle.std.specs.Str.{bytes_eq}
 use Rattle.world_io.specs.World.{Start, Shown, Ledger}
 use Rattle.job_commands.specs.declared.status.Status.{Status}
@@ -22,6 +22,12 @@ use Rattle.command_words.specs.declared.request.Request.TheVariants.{Command}
 use Rattle.command_words.specs.Watching.{begins_watch}
 
 -- Words of `live`
+
+-- where no words of `live` were read, there are none
+pub none_read : {T : Type 0} (read : Option T) (Nothing : Type 0) (Something : T → Type 0)
+    → MatchOption read Nothing Something → is_some read ≡ false → Nothing
+none_read None Nothing Something said none = said
+none_read (Some x) Nothing Something said none = absurd (let never : true ≡ false = none in cc)
 
 pub is_command : (words : List (List ℕ)) → ¬ (live_names words ≡ None) → request_of words ≡ Command
 is_command [] lives = absurd (lives refl)
