@@ -1,6 +1,7 @@
 -- The stages of the statuses that reading the inputs gives.
 use Rattle.std.proofs.Common.{◌≡◌, ℕ, List, Bool, true, false, refl, sym, inl, inr, subst, Some, None, Err}
 use Rattle.std.specs.Prelude.{cond, ◌==◌, ◌-◌, length}
+use Rattle.plain_text.specs.declared.fault.LineFault.{LineFault}
 use Rattle.plain_text.specs.declared.limit.Limit.{Limit}
 use Rattle.plain_text.specs.declared.limit.Limit.TheVariants as limit_of
 use Rattle.plain_text.specs.declared.limit.TheConstants.{MOST_FILE_BYTES, MOST_PACKETS}
@@ -16,11 +17,13 @@ use Rattle.pcapng_io.specs.Limits.{PassesNgLimit, is_cut}
 use Rattle.world_io.specs.World.{Shown}
 use Rattle.input_files.specs.declared.errors.InputError.{InputError}
 use Rattle.input_files.specs.declared.errors.InputError.TheVariants as error
-use Rattle.input_files.specs.Judging.{JudgesCapture}
+use Rattle.chain_text.specs.ChainScripts.{chain_form}
+use Rattle.input_files.specs.Answers.{LinesPass}
+use Rattle.input_files.specs.Judging.{JudgesCapture, JudgesChain}
 use Rattle.job_commands.specs.declared.status.Status.{Status}
 use Rattle.job_commands.specs.declared.status.Status.TheVariants as status
 use Rattle.job_commands.specs.Status.{AtInputs, ComesAt, EndsReading, stage_of_limit, of_capture_error}
-use Rattle.job_commands.specs.Status.{of_released_error}
+use Rattle.job_commands.specs.Status.{of_released_error, of_script_error}
 
 abbrev IsOfFile : Limit → Type 0
 IsOfFile limit = stage_of_limit limit ≡ AtInputs
@@ -71,6 +74,21 @@ released_stage healthy name shown (error.Fault fault) h = inl refl
 released_stage healthy name shown (error.TooLarge limit) h = inl (capture_limit h.0 limit h.2)
 released_stage healthy name shown error.ReadFault h = inl refl
 released_stage healthy name shown error.NoMemory h = inr refl
+
+chain_limit : (bytes : List ℕ) (limit : Limit) → LinesPass chain_form bytes limit → IsOfFile limit
+chain_limit bytes limit_of.File h = refl
+chain_limit bytes limit_of.Packets h = absurd h
+chain_limit bytes limit_of.Events h = refl
+chain_limit bytes limit_of.Moves h = absurd h
+chain_limit bytes limit_of.OutputBytes h = absurd h
+
+-- and each error of the script of a chain
+pub chain_stage : (healthy : Type 0) (name : List ℕ) (shown : Shown) (e : InputError LineFault)
+    → JudgesChain healthy name (Err e) shown → ComesAt AtInputs (of_script_error e)
+chain_stage healthy name shown (error.Fault fault) h = inl refl
+chain_stage healthy name shown (error.TooLarge limit) h = inl (chain_limit h.0 limit h.2)
+chain_stage healthy name shown error.ReadFault h = inl refl
+chain_stage healthy name shown error.NoMemory h = inr refl
 
 -- None of them is of another stage.
 

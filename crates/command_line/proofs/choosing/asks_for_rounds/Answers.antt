@@ -7,9 +7,9 @@ use Rattle.command_line.proofs.Runs.{plain_taps}
 use Rattle.command_line.proofs.choosing.asks_for_rounds.Goals as goal
 
 pub returns-in-Taps-clause-no_rounds : goal.returns-in-Taps-clause-no_rounds
-returns-in-Taps-clause-no_rounds c no =
+returns-in-Taps-clause-no_rounds c absent =
     let none : live_names c.run_line.result.now ≡ None = none_read c.read_live_words-in-Taps.result _ _
-    c.read_live_words-in-Taps.ensures.names (sym c.is_some-in-Taps.ensures ∙ no) in
+    c.read_live_words-in-Taps.ensures.names (sym c.is_some-in-Taps.ensures ∙ absent) in
     record {
       plain = λ no_tap. absurd (plain_taps c.args.words.now no_tap c.in-Taps.pairs c.in-Taps.ensures.0);
       tapped = λ pairs asks. subst (λ (n : ℕ). live_names (behind_pairs n c.args.words.now) ≡ None)

@@ -3,6 +3,7 @@ use Rattle.input_files.specs.Answers.{SaysChain}
 use Rattle.input_files.proofs.OnlyReading.{OnlyReads-more, OnlyReads-then, opened_then}
 use Rattle.job_commands.specs.ChainWords.{chain_names_of}
 use Rattle.job_commands.proofs.ChainFiles.{source_of_chain_refused, chain_script_refused}
+use Rattle.job_commands.proofs.Stages.{chain_stage}
 use Rattle.job_commands.proofs.Turns.{judged_since}
 use Rattle.job_commands.proofs.chain_inputs.read_chain_inputs.Goals as goal
 
@@ -56,3 +57,9 @@ pub returns-in-Ok-read_chain_file-clause-opened : goal.returns-in-Ok-read_chain_
 returns-in-Ok-read_chain_file-clause-opened g c =
     opened_then (c.args.names.first_box.now ∷ c.args.names.second_box.now ∷ c.args.names.capture.now ∷ [])
     (c.args.names.script.now ∷ []) _ _ _ c.in-Ok.ensures.opened c.in-Ok-read_chain_file.ensures.opened
+
+pub returns-in-Err-read_chain_file-clause-stage : goal.returns-in-Err-read_chain_file-clause-stage
+returns-in-Err-read_chain_file-clause-stage g c p q =
+    rw c.script_status.ensures (chain_stage (g.W.World.healthy c.read_source.new.world) c.args.names.script.now
+    (g.W.World.shows p c.read_source.new.world) c.in-Err-read_chain_file.error
+    (c.in-Err-read_chain_file.ensures.judged p q))

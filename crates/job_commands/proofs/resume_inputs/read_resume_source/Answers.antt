@@ -1,4 +1,4 @@
-use Rattle.std.proofs.Common.{◌∷◌, [], Err}
+use Rattle.std.proofs.Common.{◌∷◌, [], Ok, Err}
 use Rattle.input_files.specs.Answers.{SaysImage}
 use Rattle.input_files.proofs.OnlyReading.{OnlyReads-more, OnlyReads-then, opened_then}
 use Rattle.job_commands.specs.Resume.{image_third}
@@ -27,6 +27,20 @@ returns-in-Err-read_image_file-clause-judged g c p q =
     (judged_since SaysImage h (g.W.World.healthy c.read_first_inputs.new.world) c.in-Ok.ensures.only_reads.stays_healthy
     a (g.W.World.shows p c.read_first_inputs.new.world) (c.in-Ok.ensures.keeps p q1).names
     c.args.names.handover.now (Err c.in-Err-read_image_file.error) (c.in-Err-read_image_file.ensures.judged p q)))
+
+pub returns-in-Ok-read_image_file-clause-judged : goal.returns-in-Ok-read_image_file-clause-judged
+returns-in-Ok-read_image_file-clause-judged g c p q =
+    let q1 = c.in-Ok-read_image_file.ensures.before p q in
+    let first = c.in-Ok.ensures.judged p q1 in
+    record {
+      box_accepted = first.0;
+      capture_accepted = first.1;
+      handover_accepted =
+          judged_since SaysImage (g.W.World.healthy c.args.world.now) (g.W.World.healthy c.read_first_inputs.new.world)
+          c.in-Ok.ensures.only_reads.stays_healthy (g.W.World.shows p c.args.world.now)
+          (g.W.World.shows p c.read_first_inputs.new.world) (c.in-Ok.ensures.keeps p q1).names
+          c.args.names.handover.now (Ok c.in-Ok-read_image_file.image) (c.in-Ok-read_image_file.ensures.judged p q);
+    }
 
 pub returns-in-Err-clause-only_reads : goal.returns-in-Err-clause-only_reads
 returns-in-Err-clause-only_reads g c =
