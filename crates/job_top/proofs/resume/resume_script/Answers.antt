@@ -77,3 +77,6 @@ returns-in-Err-clause-orderly g c = c.in-Err.ensures.only_reads.ledger.orderly
 
 pub returns-in-Err-clause-opens_all : goal.returns-in-Err-clause-opens_all
 returns-in-Err-clause-opens_all g c e = absurd (quiet_done c.in-Err.status e c.in-Err.ensures.quiet)
+
+pub returns-in-Ok-clause-before : goal.returns-in-Ok-clause-before
+returns-in-Ok-clause-before g c p q = c.in-Ok.ensures.before p (c.run_from-run.ensures.before p q)

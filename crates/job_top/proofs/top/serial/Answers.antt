@@ -460,3 +460,81 @@ returns-in-Some-Picture-clause-unready g c p q u e =
 pub returns-in-Some-Hand-clause-unready : goal.returns-in-Some-Hand-clause-unready
 returns-in-Some-Hand-clause-unready g c p q u e =
     rw (c.in-Some-Hand.ensures, c.in-Some-Hand.field-0-is) (c.hand.ensures.unready p q u e)
+
+-- what each command leaves in its order, its promise, and its judgement
+
+pub returns-in-Some-Run-clause-headline : goal.returns-in-Some-Run-clause-headline
+returns-in-Some-Run-clause-headline g c p q done =
+    rw (c.in-Some-Run.ensures, c.in-Some-Run.field-0-is) (c.run.ensures.headline p q done)
+
+pub returns-in-Some-Run-clause-in_order : goal.returns-in-Some-Run-clause-in_order
+returns-in-Some-Run-clause-in_order g c p q =
+    rw (c.in-Some-Run.ensures, c.in-Some-Run.field-0-is) (c.run.ensures.in_order p q)
+
+pub returns-in-Some-Play-clause-in_order : goal.returns-in-Some-Play-clause-in_order
+returns-in-Some-Play-clause-in_order g c p q =
+    rw (c.in-Some-Play.ensures, c.in-Some-Play.field-0-is) (c.play_capture.ensures.in_order p q)
+
+pub returns-in-Some-Play-clause-judged : goal.returns-in-Some-Play-clause-judged
+returns-in-Some-Play-clause-judged g c p q =
+    rw (c.in-Some-Play.ensures, c.in-Some-Play.field-0-is) (c.play_capture.ensures.judged p q)
+
+pub returns-in-Some-Check-clause-in_order : goal.returns-in-Some-Check-clause-in_order
+returns-in-Some-Check-clause-in_order g c p q =
+    rw (c.in-Some-Check.ensures, c.in-Some-Check.field-0-is) (c.check_released.ensures.in_order p q)
+
+pub returns-in-Some-Check-clause-judged : goal.returns-in-Some-Check-clause-judged
+returns-in-Some-Check-clause-judged g c p q =
+    rw (c.in-Some-Check.ensures, c.in-Some-Check.field-0-is) (c.check_released.ensures.judged p q)
+
+pub returns-in-Some-Drill-clause-headline : goal.returns-in-Some-Drill-clause-headline
+returns-in-Some-Drill-clause-headline g c p q done =
+    rw (c.in-Some-Drill.ensures, c.in-Some-Drill.field-0-is) (c.drill.ensures.headline p q done)
+
+pub returns-in-Some-Drill-clause-in_order : goal.returns-in-Some-Drill-clause-in_order
+returns-in-Some-Drill-clause-in_order g c p q =
+    rw (c.in-Some-Drill.ensures, c.in-Some-Drill.field-0-is) (c.drill.ensures.in_order p q)
+
+pub returns-in-Some-Drill-clause-judged : goal.returns-in-Some-Drill-clause-judged
+returns-in-Some-Drill-clause-judged g c p q =
+    rw (c.in-Some-Drill.ensures, c.in-Some-Drill.field-0-is) (c.drill.ensures.judged p q)
+
+pub returns-in-Some-Trace-clause-in_order : goal.returns-in-Some-Trace-clause-in_order
+returns-in-Some-Trace-clause-in_order g c p q =
+    rw (c.in-Some-Trace.ensures, c.in-Some-Trace.field-0-is) (c.trace.ensures.in_order p q)
+
+pub returns-in-Some-Picture-clause-in_order : goal.returns-in-Some-Picture-clause-in_order
+returns-in-Some-Picture-clause-in_order g c p q =
+    rw (c.in-Some-Picture.ensures, c.in-Some-Picture.field-0-is) (c.picture.ensures.in_order p q)
+
+pub returns-in-Some-Chain-clause-headline : goal.returns-in-Some-Chain-clause-headline
+returns-in-Some-Chain-clause-headline g c p q done =
+    rw (c.in-Some-Chain.ensures, c.in-Some-Chain.field-0-is) (c.chain.ensures.headline p q done)
+
+pub returns-in-Some-Chain-clause-in_order : goal.returns-in-Some-Chain-clause-in_order
+returns-in-Some-Chain-clause-in_order g c p q =
+    rw (c.in-Some-Chain.ensures, c.in-Some-Chain.field-0-is) (c.chain.ensures.in_order p q)
+
+pub returns-in-Some-Chain-clause-judged : goal.returns-in-Some-Chain-clause-judged
+returns-in-Some-Chain-clause-judged g c p q =
+    rw (c.in-Some-Chain.ensures, c.in-Some-Chain.field-0-is) (c.chain.ensures.judged p q)
+
+pub returns-in-Some-Hand-clause-headline : goal.returns-in-Some-Hand-clause-headline
+returns-in-Some-Hand-clause-headline g c p q done =
+    rw (c.in-Some-Hand.ensures, c.in-Some-Hand.field-0-is) (c.hand.ensures.headline p q done)
+
+pub returns-in-Some-Hand-clause-in_order : goal.returns-in-Some-Hand-clause-in_order
+returns-in-Some-Hand-clause-in_order g c p q =
+    rw (c.in-Some-Hand.ensures, c.in-Some-Hand.field-0-is) (c.hand.ensures.in_order p q)
+
+pub returns-in-Some-Resume-clause-headline : goal.returns-in-Some-Resume-clause-headline
+returns-in-Some-Resume-clause-headline g c p q done =
+    rw (c.in-Some-Resume.ensures, c.in-Some-Resume.field-0-is) (c.resume.ensures.headline p q done)
+
+pub returns-in-Some-Resume-clause-in_order : goal.returns-in-Some-Resume-clause-in_order
+returns-in-Some-Resume-clause-in_order g c p q =
+    rw (c.in-Some-Resume.ensures, c.in-Some-Resume.field-0-is) (c.resume.ensures.in_order p q)
+
+pub returns-in-Some-Resume-clause-judged : goal.returns-in-Some-Resume-clause-judged
+returns-in-Some-Resume-clause-judged g c p q =
+    rw (c.in-Some-Resume.ensures, c.in-Some-Resume.field-0-is) (c.resume.ensures.judged p q)
