@@ -134,11 +134,13 @@ fn stops_and_goes_on<R: Threads + Wait + Sync>(rt: &R, alloc: Global) -> Result<
     };
     let mut raced = race_fresh(rt, alloc, &program, &Guide::none(alloc), feed)?;
     let [first, second] = wanted();
+    let (first_made, first_left) = first[..].split_at(2);
+    let (second_made, second_left) = second[..].split_at(2);
     let receipts = raced.did.receipts.as_slice();
-    if !did(receipts, 0, &first[..2]) || !did(receipts, 1, &second[..2]) {
+    if !did(receipts, 0, first_made) || !did(receipts, 1, second_made) {
         return Ok(false);
     }
-    let left: [&[Trace]; 2] = [&first[2..], &second[2..]];
+    let left = [first_left, second_left];
     Ok(goes_on(alloc, &mut raced.master, &program, &inputs, left))
 }
 
