@@ -42,7 +42,7 @@ not_watch command names lives watch = go (bytes_eq command (codes "live")) refl
     go : (b : Bool) → bytes_eq command (codes "live") ≡ b → ⊥
     go true live =
         let is = sym ((bytes_eq-Decides command (codes "live")).0 live)
-            ∙ (bytes_eq-Decides command (codes "watch")).0 watch in
+        ∙ (bytes_eq-Decides command (codes "watch")).0 watch in
         absurd (cc)
     go false live = lives (ap (λ (b : Bool). if b && are_apart names then Some names else None) live)
 
