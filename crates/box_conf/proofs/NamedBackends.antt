@@ -21,6 +21,7 @@ use Rattle.box_conf.specs.declared.names.Named.{Named}
 use Rattle.box_conf.specs.declared.settings.Settings.{Settings}
 use Rattle.box_conf.specs.declared.table.BoxLine.TheVariants.{Backend}
 use Rattle.box_conf.specs.declared.table.Values.{Values}
+use Rattle.sha2.specs.Sha256.{sha256}
 use Rattle.box_conf.specs.Names.{backend_from, backend_named, name_of, and_name, with_name, names_after, named_in}
 use Rattle.box_conf.specs.Names.{no_names}
 use Rattle.box_conf.specs.BoxFile.{AreOfKind}
@@ -90,23 +91,25 @@ IsOneOf (box.Monitor b) = ⊥
 IsOneOf (box.Nat b) = ⊥
 IsOneOf (box.Balancer b) = Unit {0}
 
-balancer_names : (lines : List (ℕ × List ℕ)) (k : KindWord) (conf : BoxConf) → AreOfKind k lines conf
+balancer_names : (digest : List ℕ) (lines : List (ℕ × List ℕ)) (k : KindWord) (conf : BoxConf)
+    → AreOfKind k digest lines conf
     → IsOneOf conf.kind → 1 ≤ length (named_in lines).backends
-balancer_names lines kind.Count conf x is = absurd (subst (λ (c : BoxConf). IsOneOf c.kind) x.says is)
-balancer_names lines kind.Monitor conf x is = absurd (subst (λ (c : BoxConf). IsOneOf c.kind) x.says is)
-balancer_names lines kind.Nat conf x is = absurd (subst (λ (c : BoxConf). IsOneOf c.kind) x.says is)
-balancer_names lines kind.Balancer conf x is =
+balancer_names digest lines kind.Count conf x is = absurd (subst (λ (c : BoxConf). IsOneOf c.kind) x.says is)
+balancer_names digest lines kind.Monitor conf x is = absurd (subst (λ (c : BoxConf). IsOneOf c.kind) x.says is)
+balancer_names digest lines kind.Nat conf x is = absurd (subst (λ (c : BoxConf). IsOneOf c.kind) x.says is)
+balancer_names digest lines kind.Balancer conf x is =
     let line = x.whole (row_of Backend) (inr (inr (inr (inr (inr (inr (inl refl))))))) refl in
     named_there (rows_of kind.Balancer) no_names lines line.0 line.1 line.2 line.3
 
 pub some_named : (text : List ℕ) (k : KindWord) (s : Settings)
-    → described_box text ≡ Ok (conf_from k (values_set s) (named_in (counted_lines text))) → IsBalancer k
+    → described_box text ≡ Ok (conf_from (sha256 text) k (values_set s) (named_in (counted_lines text))) → IsBalancer k
     → 1 ≤ length (named_in (counted_lines text)).backends
 some_named text kind.Count s e is = absurd is
 some_named text kind.Monitor s e is = absurd is
 some_named text kind.Nat s e is = absurd is
 some_named text kind.Balancer s e is =
-    let conf : BoxConf = conf_from kind.Balancer (values_set s) (named_in (counted_lines text)) in
-    let x = subst (λ (r : Result BoxConf LineFault). Reads (counted_lines text) (length (lines_of text)) r) e
+    let conf : BoxConf = conf_from (sha256 text) kind.Balancer (values_set s) (named_in (counted_lines text)) in
+    let x =
+    subst (λ (r : Result BoxConf LineFault). Reads (sha256 text) (counted_lines text) (length (lines_of text)) r) e
     (reads_text text) in
-    balancer_names (counted_lines text) x.0 conf x.1 tt
+    balancer_names (sha256 text) (counted_lines text) x.0 conf x.1 tt

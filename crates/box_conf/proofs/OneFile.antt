@@ -1,7 +1,7 @@
 -- A text is the file of one box at most, or has one first fault.
 use Rattle.std.proofs.Common.{◌≡◌, ℕ, ◌<◌, ◌≤◌, Bool, true, false, Option, arith, inl, inr, List, [], ◌∷◌, length, refl}
 use Rattle.std.proofs.Common.{sym, ap, ◌∙◌, subst, Some, None, Ok, Err}
-use Rattle.std.specs.Prelude.{Result, IfOk, IfErr, slice_get, nat_lt, if◌then◌else◌}
+use Rattle.std.specs.Prelude.{Result, IfOk, IfErr, IfSome, slice_get, nat_lt, ◌==◌, if◌then◌else◌}
 use Rattle.std.proofs.lemmas.Bool.Decides.{nat_tests}
 use Rattle.std.specs.Str.Lines.{lines as lines_of}
 use Rattle.plain_text.specs.declared.fault.LineCause.{LineCause}
@@ -15,8 +15,9 @@ use Rattle.box_conf.specs.declared.kind.KindWord.{KindWord}
 use Rattle.box_conf.specs.declared.kind.KindWord.TheVariants as kind
 use Rattle.box_conf.specs.declared.names.Named.{Named}
 use Rattle.box_conf.specs.declared.table.BoxLine.TheVariants.{Threads, Seed, Shards, Inside, Outside, Ports, Closing}
-use Rattle.box_conf.specs.declared.table.BoxLine.TheVariants.{Vlan, Limit, Icmp, Static, Virtual, Backend}
+use Rattle.box_conf.specs.declared.table.BoxLine.TheVariants.{Vlan, Limit, Icmp, Static, Virtual, Backend, Seal}
 use Rattle.box_conf.specs.declared.table.BoxLine.{BoxLine}
+use Rattle.sha2.specs.Sha256.{sha256}
 use Rattle.box_conf.specs.Names.{named_in, fault_of_names}
 use Rattle.box_conf.specs.BoxFile.{AreOfKind, IsDescribed, IsBoxFile, Names, NamesNone, LeavesTable, NamesInVain}
 use Rattle.box_conf.specs.BoxFile.{FirstFault, Has as HasValues}
@@ -76,24 +77,25 @@ of_once values others Icmp = values Icmp
 of_once values others Static = others Static
 of_once values others Virtual = values Virtual
 of_once values others Backend = others Backend
+of_once values others Seal = values Seal
 
-abbrev conf_by : KindWord → (BoxLine → List ℕ) → Named → BoxConf
-conf_by kind values names = conf_from kind (λ line. values_from (values line)) names
+abbrev conf_by : List ℕ → KindWord → (BoxLine → List ℕ) → Named → BoxConf
+conf_by digest kind values names = conf_from digest kind (λ line. values_from (values line)) names
 
-conf_of_once : (kind : KindWord) (values others : BoxLine → List ℕ) (names : Named)
-    → conf_by kind values names ≡ conf_by kind (of_once values others) names
-conf_of_once kind.Count values others names = refl
-conf_of_once kind.Monitor values others names = refl
-conf_of_once kind.Nat values others names = refl
-conf_of_once kind.Balancer values others names = refl
+conf_of_once : (digest : List ℕ) (kind : KindWord) (values others : BoxLine → List ℕ) (names : Named)
+    → conf_by digest kind values names ≡ conf_by digest kind (of_once values others) names
+conf_of_once digest kind.Count values others names = refl
+conf_of_once digest kind.Monitor values others names = refl
+conf_of_once digest kind.Nat values others names = refl
+conf_of_once digest kind.Balancer values others names = refl
 
-of_one_kind : (text : List ℕ) (kind : KindWord) (a b : BoxConf) → AreOfKind kind (counted_lines text) a
-    → AreOfKind kind (counted_lines text) b → a ≡ b
+of_one_kind : (text : List ℕ) (kind : KindWord) (a b : BoxConf) → AreOfKind kind (sha256 text) (counted_lines text) a
+    → AreOfKind kind (sha256 text) (counted_lines text) b → a ≡ b
 of_one_kind text kind a b x y =
     let values : of_once x.values y.values ≡ y.values = λ i line. same line i in
     let names : Named = named_in (counted_lines text) in
-    x.says ∙ conf_of_once kind x.values y.values names
-    ∙ ap (λ (values : BoxLine → List ℕ). conf_by kind values names) values ∙ sym y.says
+    x.says ∙ conf_of_once (sha256 text) kind x.values y.values names
+    ∙ ap (λ (values : BoxLine → List ℕ). conf_by (sha256 text) kind values names) values ∙ sym y.says
   where
     one : (line : BoxLine) → again_of line ≡ false → x.values line ≡ y.values line
     one line once = one_list text kind x.rows line (x.values line) (y.values line) once (x.set line) (y.set line)
@@ -112,11 +114,12 @@ of_one_kind text kind a b x y =
     same Static = refl
     same Virtual = one Virtual refl
     same Backend = refl
+    same Seal = one Seal refl
 
 one_described : (text : List ℕ) (a b : BoxConf) → IsDescribed text a → IsDescribed text b → a ≡ b
 one_described text a b x y =
     let kind = one_kind (counted_lines text) x.0 y.0 x.1.names y.1.names in
-    of_one_kind text y.0 a b (subst (λ (k : KindWord). AreOfKind k (counted_lines text) a) kind x.1) y.1
+    of_one_kind text y.0 a b (subst (λ (k : KindWord). AreOfKind k (sha256 text) (counted_lines text) a) kind x.1) y.1
 
 described_or_leaves : (text : List ℕ) (conf : BoxConf) (number : ℕ) (cause : LineCause) → IsDescribed text conf
     → LeavesTable text number cause → ⊥
@@ -209,7 +212,7 @@ answers text = by (described_box text) (fault_of_names (counted_lines text)) ref
         )
 
     by : (r : Result BoxConf LineFault) (o : Option LineFault) → fault_of_names (counted_lines text) ≡ o
-        → Reads (counted_lines text) (length (lines_of text)) r → Answers text (or_names r o)
+        → Reads (sha256 text) (counted_lines text) (length (lines_of text)) r → Answers text (or_names r o)
     by (Ok conf) None e x = (x, e)
     by (Ok conf) (Some fault) e x = inr (e, λ other why f. absurd (described_or_leaves text conf other why x f))
     by (Err fault) None e x =
@@ -250,3 +253,19 @@ pub says_fault : (text : List ℕ) (r : Result BoxConf LineFault) → r ≡ box_
     → IfErr r (λ fault. FirstFault text fault.line fault.cause)
 says_fault text (Ok conf) e = tt
 says_fault text (Err fault) e = read_is_fault text fault (sym e)
+
+-- what is sealed is the digest of the text
+by_line : (digest : List ℕ) (b : Bool) → IfSome (if b then Some digest else None) (λ (d : List ℕ). d ≡ digest)
+by_line digest true = refl
+by_line digest false = tt
+
+pub seal_is : (text : List ℕ) (conf : BoxConf) → IsBoxFile text conf
+    → IfSome conf.seal (λ (d : List ℕ). d ≡ sha256 text)
+seal_is text conf x =
+    subst (λ (c : BoxConf). IfSome c.seal (λ (d : List ℕ). d ≡ sha256 text)) (sym x.0.1.says)
+    (by_line (sha256 text) ((values_from (x.0.1.values Seal)).first == 0))
+
+pub says_seal : (text : List ℕ) (r : Result BoxConf LineFault) → r ≡ box_of text
+    → IfOk r (λ conf. IfSome conf.seal (λ (d : List ℕ). d ≡ sha256 text))
+says_seal text (Ok conf) e = seal_is text conf (read_is_box text conf (sym e))
+says_seal text (Err fault) e = tt

@@ -10,7 +10,7 @@ use Rattle.box_conf.specs.declared.kind.KindWord.{KindWord}
 use Rattle.box_conf.specs.declared.settings.Settings.{Settings}
 use Rattle.box_conf.specs.declared.table.BoxLine.{BoxLine}
 use Rattle.box_conf.specs.declared.table.BoxLine.TheVariants.{Threads, Seed, Shards, Inside, Outside, Ports, Closing}
-use Rattle.box_conf.specs.declared.table.BoxLine.TheVariants.{Vlan, Limit, Icmp, Static, Virtual, Backend}
+use Rattle.box_conf.specs.declared.table.BoxLine.TheVariants.{Vlan, Limit, Icmp, Static, Virtual, Backend, Seal}
 use Rattle.box_conf.specs.declared.table.Values.{Values}
 use Rattle.box_conf.specs.Kinds.{rows_of}
 use Rattle.box_conf.specs.Reading.{set_line}
@@ -100,6 +100,7 @@ says_within Icmp words values s f = tt
 says_within Static words values s f = static_within words values s
 says_within Virtual words values s f = end_within words values s
 says_within Backend words values s f = end_within words values s
+says_within Seal words values s f = tt
 
 -- so are the values that a line's words give
 pub read_within : (line : BoxLine) (had : Bool) (words : List (List ℕ)) (r : Result Values LineCause)

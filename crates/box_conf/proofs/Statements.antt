@@ -1,7 +1,7 @@
 -- Each line of a box file is a setting of the box, kind by kind.
 use Rattle.std.proofs.Common.{◌≡◌, ℕ, zero, suc, ◌+◌, ◌<◌, ◌≤◌, ◌-◌, ◌^◌, ◌⊎◌, inl, inr, List, [], ◌∷◌, refl, sym, ap}
 use Rattle.std.proofs.Common.{◌∙◌, subst, arith, Option, Some, None, true, false, Bool, cond, length}
-use Rattle.std.specs.Prelude.{◌/◌, ◌==◌, codes, map, max, min, option_map, slice_get, take}
+use Rattle.std.specs.Prelude.{◌/◌, ◌==◌, codes, is_some, if◌then◌else◌, map, max, min, option_map, slice_get, take}
 use Rattle.std.specs.List.{AllByRecursion}
 use Rattle.std.specs.Str.{bytes_eq}
 use Rattle.std.proofs.lemmas.Slice.Eq.{bytes_eq-Decides}
@@ -18,14 +18,15 @@ use Rattle.box_conf.specs.declared.kind.KindWord.{KindWord}
 use Rattle.box_conf.specs.declared.kind.KindWord.TheVariants as kind
 use Rattle.box_conf.specs.declared.table.BoxLine.{BoxLine}
 use Rattle.box_conf.specs.declared.table.BoxLine.TheVariants.{Threads, Seed, Shards, Inside, Outside, Ports, Closing}
-use Rattle.box_conf.specs.declared.table.BoxLine.TheVariants.{Vlan, Limit, Icmp, Static, Virtual, Backend}
+use Rattle.box_conf.specs.declared.table.BoxLine.TheVariants.{Vlan, Limit, Icmp, Static, Virtual, Backend, Seal}
 use Rattle.box_conf.specs.declared.table.Values.{Values}
 use Rattle.box_conf.specs.BoxFile.{AreOfKind, IsBoxFile, Names}
 use Rattle.box_conf.specs.Kinds.{balancer_from, box_row, conf_from, has_tags, kind_word, kinds, nat_from, rows_of}
+use Rattle.sha2.specs.Sha256.{sha256}
 use Rattle.box_conf.specs.Names.{fault_of_names, inside_in, named_in, names_fault, no_names}
 use Rattle.box_conf.specs.Settings.{usual_or_none}
 use Rattle.box_conf.specs.Stated.{Line, Begins, AreInside, AreSettings, OfBalancer, OfNat, SaysEnd, SaysOr, SaysRange}
-use Rattle.box_conf.specs.Stated.{SaysTags, Stands, EachSays, IsBackend, IsStatic, MeansSettings}
+use Rattle.box_conf.specs.Stated.{SaysFlag, SaysTags, Stands, EachSays, IsBackend, IsStatic, MeansSettings}
 use Rattle.box_conf.specs.Table.{row_of, values_from, word_of}
 use Rattle.box_conf.proofs.Naming.{AreOf, are_said, each_says, few_servers, finds_inside, server_elsewhere}
 use Rattle.box_conf.proofs.Naming.{server_here, server_of, servers_after, static_elsewhere, static_here, static_of}
@@ -91,8 +92,8 @@ stays_small lines word address n says =
 
 -- The range of ports
 
-module _ (lines : List Line) where
-  ports : (conf : BoxConf) (x : AreOfKind kind.Nat lines conf)
+module _ (digest : List ℕ) (lines : List Line) where
+  ports : (conf : BoxConf) (x : AreOfKind kind.Nat digest lines conf)
       → SaysRange lines (codes "ports") 1024 65535 (values_from (x.values Ports)).first
       (values_from (x.values Ports)).second
       × (1 ≤ (values_from (x.values Ports)).first)
@@ -126,13 +127,19 @@ module _ (lines : List Line) where
             omega (arith, second),
           )
 
+  -- a box is sealed where its line stands
+  some_if : (words : List ℕ) (b : Bool) → SaysFlag lines words [] b
+      → SaysFlag lines words [] (is_some (if b then Some digest else None))
+  some_if words true says = says
+  some_if words false says = says
+
   -- Of each kind
 
-  abbrev Of : {k : KindWord} {conf : BoxConf} → AreOfKind k lines conf → BoxLine → Values
+  abbrev Of : {k : KindWord} {conf : BoxConf} → AreOfKind k digest lines conf → BoxLine → Values
   Of x line = values_from (x.values line)
 
-  count_says : (conf : BoxConf) (x : AreOfKind kind.Count lines conf)
-      → AreSettings lines (conf_from kind.Count (Of x) (named_in lines))
+  count_says : (conf : BoxConf) (x : AreOfKind kind.Count digest lines conf)
+      → AreSettings lines (conf_from digest kind.Count (Of x) (named_in lines))
   count_says conf x =
       let tags : SaysTags lines (has_tags (Of x)) =
       says_flag kind.Count lines x.rows Vlan [] (x.values Vlan) refl
@@ -145,11 +152,14 @@ module _ (lines : List Line) where
             (says_or kind.Count lines x.rows Seed 0 (2 ^ 64 - 1) 0 (x.values Seed) refl refl refl (omega arith)
             (omega arith) (x.set Seed)).0;
         tags = tags;
+        seal =
+            some_if (codes "seal") ((Of x Seal).first == 0) (says_flag kind.Count lines x.rows Seal [] (x.values Seal)
+            refl (λ rest stands s. no_words lines (word_of Seal) rest (x.values Seal) stands s) refl (x.set Seal));
         kind = (begins lines kind.Count x.names, tags);
       }
 
-  monitor_says : (conf : BoxConf) (x : AreOfKind kind.Monitor lines conf)
-      → AreSettings lines (conf_from kind.Monitor (Of x) (named_in lines))
+  monitor_says : (conf : BoxConf) (x : AreOfKind kind.Monitor digest lines conf)
+      → AreSettings lines (conf_from digest kind.Monitor (Of x) (named_in lines))
   monitor_says conf x =
       let tags : SaysTags lines (has_tags (Of x)) =
       says_flag kind.Monitor lines x.rows Vlan [] (x.values Vlan) refl
@@ -164,6 +174,9 @@ module _ (lines : List Line) where
             (says_or kind.Monitor lines x.rows Seed 0 (2 ^ 64 - 1) 0 (x.values Seed) refl refl refl (omega arith)
             (omega arith) (x.set Seed)).0;
         tags = tags;
+        seal =
+            some_if (codes "seal") ((Of x Seal).first == 0) (says_flag kind.Monitor lines x.rows Seal [] (x.values Seal)
+            refl (λ rest stands s. no_words lines (word_of Seal) rest (x.values Seal) stands s) refl (x.set Seal));
         kind = (
           begins lines kind.Monitor x.names,
           tags,
@@ -172,7 +185,7 @@ module _ (lines : List Line) where
         );
       }
 
-  nat_of : (conf : BoxConf) (x : AreOfKind kind.Nat lines conf)
+  nat_of : (conf : BoxConf) (x : AreOfKind kind.Nat digest lines conf)
       → OfNat lines (nat_from (Of x) (named_in lines).statics).settings
   nat_of conf x =
       let shards = says_or kind.Nat lines x.rows Shards 1 64 16 (x.values Shards) refl refl refl (omega arith)
@@ -230,7 +243,7 @@ module _ (lines : List Line) where
   stay [] some few = absurd (omega (arith, some))
   stay (x ∷ xs) some few = taken 64 (x ∷ xs) few
 
-  balancer_of : (conf : BoxConf) (x : AreOfKind kind.Balancer lines conf) → fault_of_names lines ≡ None
+  balancer_of : (conf : BoxConf) (x : AreOfKind kind.Balancer digest lines conf) → fault_of_names lines ≡ None
       → OfBalancer lines (balancer_from (Of x) (named_in lines).backends).settings
   balancer_of conf x none =
       let shards = says_or kind.Balancer lines x.rows Shards 1 64 16 (x.values Shards) refl refl refl (omega arith)
@@ -257,8 +270,8 @@ module _ (lines : List Line) where
             says_some kind.Balancer lines x.rows Closing (2 ^ 32 - 1) (x.values Closing) refl refl refl (x.set Closing);
       }
 
-  nat_says : (conf : BoxConf) (x : AreOfKind kind.Nat lines conf)
-      → AreSettings lines (conf_from kind.Nat (Of x) (named_in lines))
+  nat_says : (conf : BoxConf) (x : AreOfKind kind.Nat digest lines conf)
+      → AreSettings lines (conf_from digest kind.Nat (Of x) (named_in lines))
   nat_says conf x =
       let tags : SaysTags lines (has_tags (Of x)) =
       says_flag kind.Nat lines x.rows Vlan [] (x.values Vlan) refl
@@ -271,11 +284,13 @@ module _ (lines : List Line) where
             (says_or kind.Nat lines x.rows Seed 0 (2 ^ 64 - 1) 0 (x.values Seed) refl refl refl (omega arith)
             (omega arith) (x.set Seed)).0;
         tags = tags;
+        seal = some_if (codes "seal") ((Of x Seal).first == 0) (says_flag kind.Nat lines x.rows Seal [] (x.values Seal)
+            refl (λ rest stands s. no_words lines (word_of Seal) rest (x.values Seal) stands s) refl (x.set Seal));
         kind = (begins lines kind.Nat x.names, tags, nat_of conf x);
       }
 
-  balancer_says : (conf : BoxConf) (x : AreOfKind kind.Balancer lines conf) → fault_of_names lines ≡ None
-      → AreSettings lines (conf_from kind.Balancer (Of x) (named_in lines))
+  balancer_says : (conf : BoxConf) (x : AreOfKind kind.Balancer digest lines conf) → fault_of_names lines ≡ None
+      → AreSettings lines (conf_from digest kind.Balancer (Of x) (named_in lines))
   balancer_says conf x none =
       let tags : SaysTags lines (has_tags (Of x)) =
       says_flag kind.Balancer lines x.rows Vlan [] (x.values Vlan) refl
@@ -288,10 +303,13 @@ module _ (lines : List Line) where
             (says_or kind.Balancer lines x.rows Seed 0 (2 ^ 64 - 1) 0 (x.values Seed) refl refl refl (omega arith)
             (omega arith) (x.set Seed)).0;
         tags = tags;
+        seal = some_if (codes "seal") ((Of x Seal).first == 0)
+            (says_flag kind.Balancer lines x.rows Seal [] (x.values Seal) refl
+            (λ rest stands s. no_words lines (word_of Seal) rest (x.values Seal) stands s) refl (x.set Seal));
         kind = (begins lines kind.Balancer x.names, tags, balancer_of conf x none);
       }
 
-  says_all : (k : KindWord) (conf : BoxConf) → AreOfKind k lines conf → fault_of_names lines ≡ None
+  says_all : (k : KindWord) (conf : BoxConf) → AreOfKind k digest lines conf → fault_of_names lines ≡ None
       → AreSettings lines conf
   says_all kind.Count conf x none = subst (AreSettings lines) (sym x.says) (count_says conf x)
   says_all kind.Monitor conf x none = subst (AreSettings lines) (sym x.says) (monitor_says conf x)
@@ -299,7 +317,7 @@ module _ (lines : List Line) where
   says_all kind.Balancer conf x none = subst (AreSettings lines) (sym x.says) (balancer_says conf x none)
 
 pub lines_are : (text : List ℕ) (conf : BoxConf) → IsBoxFile text conf → AreSettings (counted_lines text) conf
-lines_are text conf x = says_all (counted_lines text) x.0.0 conf x.0.1 x.1
+lines_are text conf x = says_all (sha256 text) (counted_lines text) x.0.0 conf x.0.1 x.1
 
 pub means_settings : (k : BoxKind) → MeansSettings k
 means_settings (box.Count b) = refl
@@ -309,7 +327,7 @@ means_settings (box.Balancer b) = refl
 
 -- The static ports of a NAT
 
-nat_inside : (text : List ℕ) (conf : BoxConf) (x : AreOfKind kind.Nat (counted_lines text) conf)
+nat_inside : (text : List ℕ) (conf : BoxConf) (x : AreOfKind kind.Nat (sha256 text) (counted_lines text) conf)
     → fault_of_names (counted_lines text) ≡ None
     → AreOf (values_from (x.values Inside)) (named_in (counted_lines text)).statics
 nat_inside text conf x none =
@@ -334,7 +352,7 @@ ports_inside text conf x = by x.0.0 x.0.1
         AllByRecursion (λ (s : StaticPort). (s.address / 2 ^ (32 - n) == inside / 2 ^ (32 - n)) ≡ true)
         (named_in lines).statics
 
-    by : (k : KindWord) → AreOfKind k lines conf → AreInside conf.kind
+    by : (k : KindWord) → AreOfKind k (sha256 text) lines conf → AreInside conf.kind
     by kind.Count are = subst (λ (c : BoxConf). AreInside c.kind) (sym are.says) tt
     by kind.Monitor are = subst (λ (c : BoxConf). AreInside c.kind) (sym are.says) tt
     by kind.Balancer are = subst (λ (c : BoxConf). AreInside c.kind) (sym are.says) tt

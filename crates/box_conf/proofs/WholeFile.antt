@@ -18,8 +18,9 @@ use Rattle.box_conf.specs.declared.settings.Settings.{Settings}
 use Rattle.box_conf.specs.declared.kind.KindWord.{KindWord}
 use Rattle.box_conf.specs.declared.table.BoxLine.{BoxLine}
 use Rattle.box_conf.specs.declared.table.BoxLine.TheVariants.{Threads, Seed, Shards, Inside, Outside, Ports, Closing}
-use Rattle.box_conf.specs.declared.table.BoxLine.TheVariants.{Vlan, Limit, Icmp, Static, Virtual, Backend}
+use Rattle.box_conf.specs.declared.table.BoxLine.TheVariants.{Vlan, Limit, Icmp, Static, Virtual, Backend, Seal}
 use Rattle.box_conf.specs.declared.table.Values.{Values}
+use Rattle.sha2.specs.Sha256.{sha256}
 use Rattle.box_conf.specs.Names.{named_in}
 use Rattle.box_conf.specs.BoxFile.{AreOfKind, Names, NamesNone, Has as HasValues}
 use Rattle.box_conf.specs.Reading.{and_kind, and_lines, described_box, box_of_lines, conf_of, whole_box, first_line}
@@ -37,7 +38,7 @@ Line = ℕ × List ℕ
 abbrev line_in : List ℕ → Option BoxLine
 line_in word = find (λ line. bytes_eq word (word_of line))
     (Threads ∷ Seed ∷ Shards ∷ Vlan ∷ Inside ∷ Outside ∷ Ports ∷ Closing ∷ Limit ∷ Icmp ∷ Static ∷ Virtual ∷ Backend
-    ∷ [])
+    ∷ Seal ∷ [])
 
 line_back : (line : BoxLine) → line_in (word_of line) ≡ Some line
 line_back Threads = refl
@@ -53,6 +54,7 @@ line_back Icmp = refl
 line_back Static = refl
 line_back Virtual = refl
 line_back Backend = refl
+line_back Seal = refl
 
 not_box : (line : BoxLine) → box_row ≡ row_of line → ⊥
 not_box line e =
@@ -80,6 +82,7 @@ set_or s Icmp Icmp v = inr (refl, refl)
 set_or s Static Static v = inr (refl, refl)
 set_or s Virtual Virtual v = inr (refl, refl)
 set_or s Backend Backend v = inr (refl, refl)
+set_or s Seal Seal v = inr (refl, refl)
 set_or s Threads other v = inl ((λ e. cc), refl)
 set_or s Seed other v = inl ((λ e. cc), refl)
 set_or s Shards other v = inl ((λ e. cc), refl)
@@ -93,6 +96,7 @@ set_or s Icmp other v = inl ((λ e. cc), refl)
 set_or s Static other v = inl ((λ e. cc), refl)
 set_or s Virtual other v = inl ((λ e. cc), refl)
 set_or s Backend other v = inl ((λ e. cc), refl)
+set_or s Seal other v = inl ((λ e. cc), refl)
 
 -- What the lines so far have set
 
@@ -349,6 +353,7 @@ begins kind first rest n index rising names = record {
     unset Static = none_of Static
     unset Virtual = none_of Virtual
     unset Backend = none_of Backend
+    unset Seal = none_of Seal
 
     here_stays : (cause : LineCause) → Leaves (rows_of kind) (first ∷ rest) first cause → ⊥
     here_stays cause leaves =
@@ -448,23 +453,25 @@ one_lacks kind lines s line stands e =
     record { row = row_of line; listed = inr missing.0; required = both.0; absent = unset }
 
 -- what the reader comes to
-abbrev pub Reads : List Line → ℕ → Result BoxConf LineFault → Type 0
-Reads lines count (Ok conf) = (kind : KindWord) × AreOfKind kind lines conf
-Reads lines count (Err fault) =
+abbrev pub Reads : List ℕ → List Line → ℕ → Result BoxConf LineFault → Type 0
+Reads digest lines count (Ok conf) = (kind : KindWord) × AreOfKind kind digest lines conf
+Reads digest lines count (Err fault) =
     ((lines ≡ []) × (fault.line ≡ count + 1) × (fault.cause ≡ MissingLine))
     ⊎ NamesNone lines fault.line fault.cause
     ⊎ (kind : KindWord) × Names lines kind × FirstOfFile (rows_of kind) lines count fault.line fault.cause
 
-reads_lines : (lines : List Line) (count n : ℕ) → Rising n lines → Reads lines count (box_of_lines count lines)
-reads_lines [] count n rising = inl (refl, refl, refl)
-reads_lines (first ∷ rest) count n rising = by_first (first_line (words_of first.1)) (first_says (words_of first.1))
+reads_lines : (digest : List ℕ) (lines : List Line) (count n : ℕ) → Rising n lines
+    → Reads digest lines count (box_of_lines digest count lines)
+reads_lines digest [] count n rising = inl (refl, refl, refl)
+reads_lines digest (first ∷ rest) count n rising =
+    by_first (first_line (words_of first.1)) (first_says (words_of first.1))
   where
     all : List Line
     all = first ∷ rest
 
     by_missing : (kind : KindWord) (s : Settings) (o : Option BoxLine) → Names all kind → Stands kind s all
         → AreLines (rows_of kind) all → missing_line kind s ≡ o
-        → Reads all count (whole_box count kind (named_in all) s o)
+        → Reads digest all count (whole_box digest count kind (named_in all) s o)
     by_missing kind s None names stands rows none =
         let of_line : (line : BoxLine)
         → (values : List ℕ) × HasValues kind all line values × (values_from values ≡ values_set s line) =
@@ -477,23 +484,24 @@ reads_lines (first ∷ rest) count n rising = by_first (first_line (words_of fir
             whole = all_stand kind all s stands none;
             values = λ line. (of_line line).0;
             set = λ line. (of_line line).1;
-            says = ap (λ (values : BoxLine → Values). conf_from kind values (named_in all)) (sym same);
+            says = ap (λ (values : BoxLine → Values). conf_from digest kind values (named_in all)) (sym same);
           },
         )
     by_missing kind s (Some line) names stands rows e =
         inr (inr (kind, names, inr (rows, one_lacks kind all s line stands e, refl, refl)))
 
     by_lines : (kind : KindWord) (r : Result Settings LineFault) → Names all kind → Comes kind all r
-        → Reads all count (conf_of count kind (named_in all) r)
+        → Reads digest all count (conf_of digest count kind (named_in all) r)
     by_lines kind (Ok s) names comes = by_missing kind s (missing_line kind s) names comes.0 comes.1 refl
     by_lines kind (Err fault) names comes = inr (inr (kind, names, inl comes))
 
     by_first : (r : Result KindWord LineCause) → FirstSays (words_of first.1) r
-        → Reads all count (and_kind count first.0 (named_in all) r rest)
+        → Reads digest all count (and_kind digest count first.0 (named_in all) r rest)
     by_first (Ok kind) names = by_lines kind (set_lines kind no_settings rest) names
         (along kind all rest (first ∷ []) no_settings (first.0 + 1) (begins kind first rest n names.0 rising names.1))
     by_first (Err cause) fault = inr (inl (refl, fault))
 
-pub reads_text : (text : List ℕ) → Reads (counted_lines text) (length (lines_of text)) (described_box text)
-reads_text text = reads_lines (counted_lines text) (length (lines_of text)) 1
+pub reads_text : (text : List ℕ)
+    → Reads (sha256 text) (counted_lines text) (length (lines_of text)) (described_box text)
+reads_text text = reads_lines (sha256 text) (counted_lines text) (length (lines_of text)) 1
     (counted_rise 1 (λ line. words_count (words_of line.1)) (lines_of text))

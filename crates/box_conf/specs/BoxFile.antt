@@ -6,6 +6,7 @@ use Rattle.plain_text.specs.declared.fault.LineCause.{LineCause}
 use Rattle.plain_text.specs.declared.fault.LineCause.TheVariants.{MissingLine}
 use Rattle.plain_text.specs.Grammar.{AllStand, AreLines, FirstOfFile, LineSays, Sets, line_fault}
 use Rattle.plain_text.specs.Lines.{counted_lines, words_of}
+use Rattle.sha2.specs.Sha256.{sha256}
 use Rattle.box_conf.specs.Names.{named_in, fault_of_names}
 use Rattle.box_conf.specs.declared.kind.BoxConf.{BoxConf}
 use Rattle.box_conf.specs.declared.kind.KindWord.{KindWord}
@@ -24,18 +25,18 @@ Names (first ∷ lines) kind =
 abbrev pub Has : KindWord → List (ℕ × List ℕ) → BoxLine → List ℕ → Type 0
 Has kind lines line values = Sets (rows_of kind) lines (row_of line) (usual_or_none line) values
 
--- the lines that count are those of a file of this kind, and this is the box that they make
-pub record AreOfKind (kind : KindWord) (lines : List (ℕ × List ℕ)) (conf : BoxConf) : Type 0 where
+-- the lines that count are those of a file of this kind and digest, and this is the box that they make
+pub record AreOfKind (kind : KindWord) (digest : List ℕ) (lines : List (ℕ × List ℕ)) (conf : BoxConf) : Type 0 where
   pub names : Names lines kind
   pub rows : AreLines (rows_of kind) lines
   pub whole : AllStand (rows_of kind) lines
   pub values : BoxLine → List ℕ
   pub set : (line : BoxLine) → Has kind lines line (values line)
-  pub says : conf ≡ conf_from kind (λ line. values_from (values line)) (named_in lines)
+  pub says : conf ≡ conf_from digest kind (λ line. values_from (values line)) (named_in lines)
 
 -- by the table of its kind, a text is the file of this box
 abbrev pub IsDescribed : List ℕ → BoxConf → Type 0
-IsDescribed text conf = (kind : KindWord) × AreOfKind kind (counted_lines text) conf
+IsDescribed text conf = (kind : KindWord) × AreOfKind kind (sha256 text) (counted_lines text) conf
 
 -- a text is the file of this box
 abbrev pub IsBoxFile : List ℕ → BoxConf → Type 0

@@ -32,7 +32,7 @@ use Rattle.box_conf.specs.declared.settings.Settings.{Settings}
 use Rattle.box_conf.specs.declared.table.BoxLine.{BoxLine}
 use Rattle.box_conf.specs.declared.table.BoxLine.TheVariants as line
 use Rattle.box_conf.specs.declared.table.BoxLine.TheVariants.{Threads, Seed, Shards, Inside, Outside, Ports, Closing}
-use Rattle.box_conf.specs.declared.table.BoxLine.TheVariants.{Vlan, Limit, Icmp, Static, Virtual}
+use Rattle.box_conf.specs.declared.table.BoxLine.TheVariants.{Vlan, Limit, Icmp, Static, Virtual, Seal}
 use Rattle.box_conf.specs.declared.table.Values.{Values}
 use Rattle.box_conf.specs.Settings.{setting}
 use Rattle.box_conf.specs.Table.{row_of, usual_of, word_of}
@@ -49,11 +49,11 @@ kind_word kind.Nat = codes "nat"
 kind_word kind.Balancer = codes "balancer"
 
 abbrev pub lines_of : KindWord → List BoxLine
-lines_of kind.Count = Threads ∷ Seed ∷ Vlan ∷ []
-lines_of kind.Monitor = Threads ∷ Seed ∷ Shards ∷ Vlan ∷ []
+lines_of kind.Count = Threads ∷ Seed ∷ Vlan ∷ Seal ∷ []
+lines_of kind.Monitor = Threads ∷ Seed ∷ Shards ∷ Vlan ∷ Seal ∷ []
 lines_of kind.Nat =
-    Threads ∷ Seed ∷ Shards ∷ Vlan ∷ Inside ∷ Outside ∷ Ports ∷ Closing ∷ Limit ∷ Icmp ∷ Static ∷ []
-lines_of kind.Balancer = Threads ∷ Seed ∷ Shards ∷ Vlan ∷ Virtual ∷ line.Backend ∷ Closing ∷ []
+    Threads ∷ Seed ∷ Shards ∷ Vlan ∷ Inside ∷ Outside ∷ Ports ∷ Closing ∷ Limit ∷ Icmp ∷ Static ∷ Seal ∷ []
+lines_of kind.Balancer = Threads ∷ Seed ∷ Shards ∷ Vlan ∷ Virtual ∷ line.Backend ∷ Closing ∷ Seal ∷ []
 
 -- the number of a line such as `closing`; none where it is not there
 abbrev pub number_of : ℕ → Option ℕ
@@ -89,6 +89,10 @@ balancer_from values backends =
 -- whether one VLAN tag is looked through (IEEE 802.1Q): the line `vlan` stands
 abbrev pub has_tags : (BoxLine → Values) → Bool
 has_tags values = (values Vlan).first == 0
+
+-- where the line `seal` stands, the digest of the file
+abbrev pub seal_from : List ℕ → (BoxLine → Values) → Option (List ℕ)
+seal_from digest values = if (values Seal).first == 0 then Some digest else None
 
 -- a program, which looks through tags where that line stands
 abbrev pub tagged_from : {P : Type 0} → (BoxLine → Values) → P → Tagged P
@@ -147,11 +151,13 @@ rows_of kind = box_row ∷ map row_of (lines_of kind)
 abbrev pub missing_line : KindWord → Settings → Option BoxLine
 missing_line kind settings = find (λ line. is_none (usual_of line) && is_none (setting settings line)) (lines_of kind)
 
-abbrev pub conf_from : KindWord → (BoxLine → Values) → Named → BoxConf
-conf_from kind values names = record {
+-- the box of a file whose bytes have this digest
+abbrev pub conf_from : List ℕ → KindWord → (BoxLine → Values) → Named → BoxConf
+conf_from digest kind values names = record {
   threads = (values Threads).first;
   seed = (values Seed).first;
   tags = has_tags values;
+  seal = seal_from digest values;
   kind = box_from kind values names;
 }
 

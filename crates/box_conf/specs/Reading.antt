@@ -9,6 +9,7 @@ use Rattle.plain_text.specs.declared.fault.LineCause.TheVariants.{UnknownWord, M
 use Rattle.plain_text.specs.declared.fault.LineFault.{LineFault}
 use Rattle.plain_text.specs.Fields.{fields_of}
 use Rattle.plain_text.specs.Lines.{words_of, counted_lines}
+use Rattle.sha2.specs.Sha256.{sha256}
 use Rattle.box_conf.specs.Names.{named_in, fault_of_names}
 use Rattle.box_conf.specs.declared.kind.BoxConf.{BoxConf}
 use Rattle.box_conf.specs.declared.kind.KindWord.{KindWord}
@@ -77,30 +78,32 @@ no_settings = record {
   static_port = None;
   virtual_end = None;
   backend = None;
+  seal = None;
 }
 
--- the box of these settings, if no line is missing, where the file has this count of lines
-abbrev pub whole_box : ℕ → KindWord → Named → Settings → Option BoxLine → Result BoxConf LineFault
-whole_box count k names s None = Ok (conf_from k (values_set s) names)
-whole_box count k names s (Some line) = Err (fault_at (count + 1) MissingLine)
+-- the box of these settings, if no line is missing, where the file has this digest and this count of lines
+abbrev pub whole_box : List ℕ → ℕ → KindWord → Named → Settings → Option BoxLine → Result BoxConf LineFault
+whole_box digest count k names s None = Ok (conf_from digest k (values_set s) names)
+whole_box digest count k names s (Some line) = Err (fault_at (count + 1) MissingLine)
 
-abbrev pub conf_of : ℕ → KindWord → Named → Result Settings LineFault → Result BoxConf LineFault
-conf_of count k names (Ok s) = whole_box count k names s (missing_line k s)
-conf_of count k names (Err fault) = Err fault
+abbrev pub conf_of : List ℕ → ℕ → KindWord → Named → Result Settings LineFault → Result BoxConf LineFault
+conf_of digest count k names (Ok s) = whole_box digest count k names s (missing_line k s)
+conf_of digest count k names (Err fault) = Err fault
 
-abbrev pub and_kind : ℕ → ℕ → Named → Result KindWord LineCause → List (ℕ × List ℕ) → Result BoxConf LineFault
-and_kind count line names (Ok k) lines = conf_of count k names (set_lines k no_settings lines)
-and_kind count line names (Err cause) lines = Err (fault_at line cause)
+abbrev pub and_kind : List ℕ → ℕ → ℕ → Named → Result KindWord LineCause → List (ℕ × List ℕ)
+    → Result BoxConf LineFault
+and_kind digest count line names (Ok k) lines = conf_of digest count k names (set_lines k no_settings lines)
+and_kind digest count line names (Err cause) lines = Err (fault_at line cause)
 
--- the lines that count, of a file with this count of lines
-abbrev pub box_of_lines : ℕ → List (ℕ × List ℕ) → Result BoxConf LineFault
-box_of_lines count [] = Err (fault_at (count + 1) MissingLine)
-box_of_lines count (line ∷ lines) =
-    and_kind count line.0 (named_in (line ∷ lines)) (first_line (words_of line.1)) lines
+-- the lines that count, of a file with this digest and this count of lines
+abbrev pub box_of_lines : List ℕ → ℕ → List (ℕ × List ℕ) → Result BoxConf LineFault
+box_of_lines digest count [] = Err (fault_at (count + 1) MissingLine)
+box_of_lines digest count (line ∷ lines) =
+    and_kind digest count line.0 (named_in (line ∷ lines)) (first_line (words_of line.1)) lines
 
 -- the box that a file describes by the table of its kind, or the first fault by it
 abbrev pub described_box : List ℕ → Result BoxConf LineFault
-described_box text = box_of_lines (length (lines text)) (counted_lines text)
+described_box text = box_of_lines (sha256 text) (length (lines text)) (counted_lines text)
 
 abbrev pub earlier : LineFault → LineFault → LineFault
 earlier of_table of_names = if nat_lt of_names.line of_table.line then of_names else of_table

@@ -8,7 +8,7 @@ use Rattle.box_conf.specs.declared.settings.ReadValues.{ReadValues}
 use Rattle.box_conf.specs.declared.settings.Settings.{Settings}
 use Rattle.box_conf.specs.declared.table.BoxLine.{BoxLine}
 use Rattle.box_conf.specs.declared.table.BoxLine.TheVariants.{Threads, Seed, Shards, Inside, Outside, Ports, Closing}
-use Rattle.box_conf.specs.declared.table.BoxLine.TheVariants.{Vlan, Limit, Icmp, Static, Virtual, Backend}
+use Rattle.box_conf.specs.declared.table.BoxLine.TheVariants.{Vlan, Limit, Icmp, Static, Virtual, Backend, Seal}
 use Rattle.box_conf.specs.declared.table.LinePlace.{LinePlace}
 use Rattle.box_conf.specs.declared.table.Values.{Values}
 use Rattle.box_conf.specs.Table.{again_of, fits_of, grammar_place, row_of, usual_of, values_from}
@@ -27,6 +27,7 @@ setting s Icmp = s.icmp
 setting s Static = s.static_port
 setting s Virtual = s.virtual_end
 setting s Backend = s.backend
+setting s Seal = s.seal
 
 abbrev pub with_setting : Settings → BoxLine → Values → Settings
 with_setting s Threads values = record s { threads = Some values }
@@ -42,6 +43,7 @@ with_setting s Icmp values = record s { icmp = Some values }
 with_setting s Static values = record s { static_port = Some values }
 with_setting s Virtual values = record s { virtual_end = Some values }
 with_setting s Backend values = record s { backend = Some values }
+with_setting s Seal values = record s { seal = Some values }
 
 -- a line that may stand once stood before
 abbrev pub has_stood : Settings → BoxLine → Bool
@@ -114,6 +116,7 @@ IsWithin Icmp values = Unit {0}
 IsWithin Static values = (values.second < 2 ^ 32) × (values.third ≤ 65535) × (values.fourth ≤ 65535)
 IsWithin Virtual values = (values.first < 2 ^ 32) × (values.second ≤ 65535)
 IsWithin Backend values = (values.first < 2 ^ 32) × (values.second ≤ 65535)
+IsWithin Seal values = Unit {0}
 
 -- each line has set what it may
 abbrev pub AreInRange : Settings → Type 0

@@ -1,6 +1,6 @@
 -- What each line of a box file says of the box, in the words of the line. The law `lines_are_settings` says it of each
 -- file, and nothing here knows of tables of lines or of how a file is read.
-use Rattle.std.specs.Prelude.{◌≡◌, ◌⊎◌, ℕ, Bool, true, false, List, [], ◌∷◌, codes, Option, Some, None}
+use Rattle.std.specs.Prelude.{◌≡◌, ◌⊎◌, ℕ, Bool, true, false, List, [], ◌∷◌, codes, is_some, Option, Some, None}
 use Rattle.std.specs.List.{AllByRecursion}
 use Rattle.plain_text.specs.Grammar.{Has}
 use Rattle.plain_text.specs.Lines.{address_of, number_of, words_of}
@@ -152,6 +152,7 @@ pub record AreSettings (lines : List Line) (conf : BoxConf) : Type 0 where
   pub threads : SaysOr lines (codes "threads") 1 conf.threads
   pub seed : SaysOr lines (codes "seed") 0 conf.seed
   pub tags : SaysTags lines conf.tags
+  pub seal : SaysFlag lines (codes "seal") [] (is_some conf.seal)
   pub kind : OfKind lines conf.kind
 
 -- The box means what its kind does with these settings, and looks through a tag where it says so.

@@ -7,7 +7,7 @@ use Rattle.plain_text.specs.Grammar.{Place, Row}
 use Rattle.plain_text.specs.Grammar as place
 use Rattle.box_conf.specs.declared.table.BoxLine.{BoxLine}
 use Rattle.box_conf.specs.declared.table.BoxLine.TheVariants.{Threads, Seed, Shards, Inside, Outside, Ports, Closing}
-use Rattle.box_conf.specs.declared.table.BoxLine.TheVariants.{Vlan, Limit, Icmp, Static, Virtual, Backend}
+use Rattle.box_conf.specs.declared.table.BoxLine.TheVariants.{Vlan, Limit, Icmp, Static, Virtual, Backend, Seal}
 use Rattle.box_conf.specs.declared.table.LinePlace.{LinePlace}
 use Rattle.box_conf.specs.declared.table.LinePlace.TheVariants.{Number, Address, Protocol, Errors}
 use Rattle.box_conf.specs.declared.table.Values.{Values}
@@ -28,6 +28,7 @@ word_of Icmp = codes "icmp"
 word_of Static = codes "static"
 word_of Virtual = codes "virtual"
 word_of Backend = codes "backend"
+word_of Seal = codes "seal"
 
 abbrev pub places_of : BoxLine → List LinePlace
 places_of Threads = Number 1 16 ∷ []
@@ -43,6 +44,7 @@ places_of Icmp = Errors ∷ []
 places_of Static = Protocol ∷ Address ∷ Number 1 65535 ∷ Number 1 65535 ∷ []
 places_of Virtual = Address ∷ Number 0 65535 ∷ []
 places_of Backend = Address ∷ Number 0 65535 ∷ []
+places_of Seal = []
 
 -- the first port is not above the last
 abbrev pub fits_of : BoxLine → Values → Bool
@@ -59,6 +61,7 @@ fits_of Icmp values = true
 fits_of Static values = true
 fits_of Virtual values = true
 fits_of Backend values = true
+fits_of Seal values = true
 
 -- there may be several static ports, and several backends
 abbrev pub again_of : BoxLine → Bool
@@ -75,8 +78,10 @@ again_of Icmp = false
 again_of Static = true
 again_of Virtual = false
 again_of Backend = true
+again_of Seal = false
 
--- `icmp` has the index of its word, and 1 where it is not there; `vlan` has no word, so 0, and 1 where it is not there
+-- `icmp` has the index of its word, and 1 where it is not there; `vlan` has no word, so 0, and 1 where it is not there;
+-- so has `seal`
 abbrev pub usual_of : BoxLine → Option (List ℕ)
 usual_of Threads = Some (1 ∷ [])
 usual_of Seed = Some (0 ∷ [])
@@ -91,6 +96,7 @@ usual_of Icmp = Some (1 ∷ [])
 usual_of Static = Some []
 usual_of Virtual = None
 usual_of Backend = None
+usual_of Seal = Some (1 ∷ [])
 
 -- Of all lines
 

@@ -1,5 +1,6 @@
-ghost use Rattle.std.specs.Prelude.{◌≡◌, ◌≤◌, Ok, Err, None, IfOk, IfErr, length};
+ghost use Rattle.std.specs.Prelude.{◌≡◌, ◌≤◌, Ok, Err, None, IfOk, IfErr, IfSome, length};
 ghost use Rattle.plain_text.specs.Lines.{counted_lines};
+ghost use Rattle.sha2.specs.Sha256.{sha256};
 ghost use Rattle.box_conf.specs.Kinds.{conf_from, missing_line, IsBalancer};
 ghost use Rattle.box_conf.specs.BoxFile.{IsBoxFile, FirstFault};
 ghost use Rattle.box_conf.specs.Names.{named_in};
@@ -7,7 +8,7 @@ ghost use Rattle.box_conf.specs.Reading.{box_of, described_box, earlier, box_lin
 ghost use Rattle.box_conf.specs.Reading.{set_line};
 ghost use Rattle.box_conf.specs.Settings.{AreInRange, values_set};
 
-use crate::kind::{BoxConf, KindWord, has_tags};
+use crate::kind::{BoxConf, KindWord, has_tags, seal_from};
 use crate::names::{Named, read_names};
 use crate::settings::{Settings, read_line};
 use crate::table::BoxLine;
@@ -27,6 +28,7 @@ const BOX: &[u8] = b"box";
 /// | `seed S` | all | any number | 0 |
 /// | `shards S` | `monitor`, `nat`, `balancer` | 1 to 64 | 16 |
 /// | `vlan` | all | | tags are not looked through |
+/// | `seal` | all | | the text of a handover is not sealed |
 /// | `inside ADDRESS LENGTH` | `nat` | a length of 1 to 32 bits | a fault |
 /// | `outside ADDRESS` | `nat` | any address | a fault |
 /// | `ports LOW HIGH` | `nat` | 1 to 65,535, LOW at most HIGH | 1024 65535 |
@@ -43,6 +45,7 @@ const BOX: &[u8] = b"box";
 pub fn read_box(text: &[u8]) -> Result<BoxConf, LineFault>
     ensures value { IfOk result (IsBoxFile text.now) }
     ensures threads { IfOk result (λ conf. (1 ≤ conf.threads) × (conf.threads ≤ 16)) }
+    ensures seal { IfOk result (λ conf. IfSome conf.seal (λ seal. seal ≡ sha256 text.now)) }
     ensures fault { IfErr result (λ fault. FirstFault text.now fault.line fault.cause) }
 {
     read_both(text)
@@ -56,7 +59,7 @@ fn read_both(text: &[u8]) -> Result<BoxConf, LineFault>
     let names = read_names(text);
     match read_settings(text) {
         Ok(set) => match names {
-            Ok(names) => Ok(make_conf(set.kind, set.settings, names)),
+            Ok(names) => Ok(make_conf(text, set.kind, set.settings, names)),
             Err(fault) => Err(fault),
         },
         Err(of_table) => match names {
@@ -87,7 +90,7 @@ struct SetLines {
 /// What the lines of a box file set, by the table of its kind.
 fn read_settings(text: &[u8]) -> Result<SetLines, LineFault>
     ensures value { IfOk result (λ set. described_box text.now
-        ≡ Ok (conf_from set.kind (values_set set.settings)
+        ≡ Ok (conf_from (sha256 text.now) set.kind (values_set set.settings)
         (named_in (counted_lines text.now)))) }
     ensures in_range { IfOk result (λ set. AreInRange set.settings) }
     ensures whole { IfOk result (λ set. missing_line set.kind set.settings ≡ None) }
@@ -115,6 +118,7 @@ fn read_settings(text: &[u8]) -> Result<SetLines, LineFault>
         static_port: None,
         virtual_end: None,
         backend: None,
+        seal: None,
     };
     for line in left {
         match set_by_line(kind, settings, words(line.bytes)) {
@@ -128,19 +132,20 @@ fn read_settings(text: &[u8]) -> Result<SetLines, LineFault>
     }
 }
 
-/// The box of these settings and names.
-fn make_conf(kind: KindWord, settings: Settings, names: Named) -> BoxConf
+/// The box of these settings and names, in the file of this text.
+fn make_conf(text: &[u8], kind: KindWord, settings: Settings, names: Named) -> BoxConf
     requires in_range { AreInRange settings }
     requires whole { missing_line kind settings ≡ None }
     requires some { IsBalancer kind → 1 ≤ length names.backends }
     requires few { length names.backends ≤ 64 }
-    ensures value { result ≡ conf_from kind (values_set settings) names }
+    ensures value { result ≡ conf_from (sha256 text.now) kind (values_set settings) names }
     ensures threads { (1 ≤ result.threads) × (result.threads ≤ 16) }
 {
     BoxConf {
         threads: settings.values(BoxLine::Threads).first as u32,
         seed: settings.values(BoxLine::Seed).first,
         tags: has_tags(settings),
+        seal: seal_from(text, settings),
         kind: kind.make(settings, names),
     }
 }

@@ -1,7 +1,8 @@
 ghost use Rattle.std.specs.Prelude.{◌≡◌, ◌≤◌, ◌<◌, ◌^◌, true, None, is_some, length};
+ghost use Rattle.sha2.specs.Sha256.{sha256};
 ghost use Rattle.box_conf.specs.Kinds.{kind_named, lines_of, line_named, missing_line, box_from};
 ghost use Rattle.box_conf.specs.Kinds.{number_of, nat_from, balancer_from, has_tags, IsBalancer};
-ghost use Rattle.box_conf.specs.Kinds.{drop_register};
+ghost use Rattle.box_conf.specs.Kinds.{drop_register, seal_from};
 ghost use Rattle.box_conf.specs.Settings.{AreInRange, setting, values_set};
 ghost use Rattle.box_conf.specs.declared.table.BoxLine.TheVariants.{Inside, Outside, Virtual};
 
@@ -13,6 +14,7 @@ use box_program::CountBox;
 use flow_boxes::ShortList;
 use monitor_box::MonitorBox;
 use nat_box::{NatBox, NatSettings, StaticPort};
+use sha2::{Digest, Sha256};
 use tagged_box::Tagged;
 
 /// The box that runs, with its settings.
@@ -47,6 +49,8 @@ pub struct BoxConf {
     pub seed: u64,
     /// Whether one VLAN tag is looked through (IEEE 802.1Q).
     pub tags: bool,
+    /// Where a system of it is handed over sealed: the SHA-256 of the bytes of its file.
+    pub seal: Option<[u8; 32]>,
     /// Which box it is.
     pub kind: BoxKind,
 }
@@ -83,12 +87,18 @@ impl KindWord {
         ensures { result.now ≡ lines_of self }
     {
         match self {
-            KindWord::Count => &[BoxLine::Threads, BoxLine::Seed, BoxLine::Vlan],
+            KindWord::Count => &[
+                BoxLine::Threads,
+                BoxLine::Seed,
+                BoxLine::Vlan,
+                BoxLine::Seal,
+            ],
             KindWord::Monitor => &[
                 BoxLine::Threads,
                 BoxLine::Seed,
                 BoxLine::Shards,
                 BoxLine::Vlan,
+                BoxLine::Seal,
             ],
             KindWord::Nat => &[
                 BoxLine::Threads,
@@ -102,6 +112,7 @@ impl KindWord {
                 BoxLine::Limit,
                 BoxLine::Icmp,
                 BoxLine::Static,
+                BoxLine::Seal,
             ],
             KindWord::Balancer => &[
                 BoxLine::Threads,
@@ -111,6 +122,7 @@ impl KindWord {
                 BoxLine::Virtual,
                 BoxLine::Backend,
                 BoxLine::Closing,
+                BoxLine::Seal,
             ],
         }
     }
@@ -172,6 +184,18 @@ pub fn has_tags(settings: Settings) -> bool
     ensures { result ≡ has_tags (values_set settings) }
 {
     settings.values(BoxLine::Vlan).first == 0
+}
+
+/// Where the line `seal` stands: the SHA-256 of the bytes of the file.
+pub fn seal_from(text: &[u8], settings: Settings) -> Option<[u8; 32]>
+    requires { AreInRange settings }
+    ensures { result ≡ seal_from (sha256 text.now) (values_set settings) }
+{
+    if settings.values(BoxLine::Seal).first == 0 {
+        Some(Sha256::digest(text))
+    } else {
+        None
+    }
 }
 
 /// The number of a line such as `closing`; none where it is not there.

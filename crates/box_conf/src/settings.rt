@@ -26,6 +26,7 @@ pub struct Settings {
     pub virtual_end: Option<Values>,
     /// The newest of the backends.
     pub backend: Option<Values>,
+    pub seal: Option<Values>,
 }
 
 impl Settings {
@@ -47,6 +48,7 @@ impl Settings {
             BoxLine::Static => self.static_port,
             BoxLine::Virtual => self.virtual_end,
             BoxLine::Backend => self.backend,
+            BoxLine::Seal => self.seal,
         }
     }
 
@@ -93,6 +95,7 @@ impl Settings {
                 backend: set,
                 ..self
             },
+            BoxLine::Seal => Settings { seal: set, ..self },
         }
     }
 

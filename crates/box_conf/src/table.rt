@@ -22,6 +22,7 @@ pub enum BoxLine {
     Static,
     Virtual,
     Backend,
+    Seal,
 }
 
 /// What stands at a place of a line.
@@ -146,6 +147,7 @@ impl BoxLine {
             BoxLine::Static => b"static",
             BoxLine::Virtual => b"virtual",
             BoxLine::Backend => b"backend",
+            BoxLine::Seal => b"seal",
         }
     }
 
@@ -160,7 +162,7 @@ impl BoxLine {
                 high: u64::MAX,
             }],
             BoxLine::Shards => &[LinePlace::Number { low: 1, high: 64 }],
-            BoxLine::Vlan => &[],
+            BoxLine::Vlan | BoxLine::Seal => &[],
             BoxLine::Inside => &[LinePlace::Address, LinePlace::Number { low: 1, high: 32 }],
             BoxLine::Outside => &[LinePlace::Address],
             BoxLine::Ports => &[PORT, PORT],
@@ -205,17 +207,19 @@ impl BoxLine {
             | BoxLine::Icmp
             | BoxLine::Static
             | BoxLine::Virtual
-            | BoxLine::Backend => true,
+            | BoxLine::Backend
+            | BoxLine::Seal => true,
         }
     }
 
     /// The values that hold where the line is not there. A line that has none has to stand. `closing` is 0 then: no
-    /// connection is followed; `limit` is 0: there is none; and `icmp` and `vlan` are 1: no such line stands.
+    /// connection is followed; `limit` is 0: there is none; and `icmp`, `vlan` and `seal` are 1: no such line
+    /// stands.
     pub fn usual(self) -> Option<Values>
         ensures { result ≡ option_map values_from (usual_of self) }
     {
         let (first, second) = match self {
-            BoxLine::Threads | BoxLine::Vlan | BoxLine::Icmp => (1, 0),
+            BoxLine::Threads | BoxLine::Vlan | BoxLine::Icmp | BoxLine::Seal => (1, 0),
             BoxLine::Seed | BoxLine::Closing | BoxLine::Limit | BoxLine::Static => (0, 0),
             BoxLine::Shards => (16, 0),
             BoxLine::Inside | BoxLine::Outside | BoxLine::Virtual | BoxLine::Backend => return None,

@@ -8,7 +8,7 @@ use crate::clashes::{OtherName, one_file};
 use crate::faults::{box_file, faulty_name, second_box};
 use crate::word_places::{read_line, read_places};
 use hand_faults::{HandCause, HandFault};
-use job_commands::{InputFault, Status, read_command};
+use job_commands::{Command, InputFault, Status, read_command};
 use plain_text::{LineCause, LineFault, Text};
 use std::io;
 use std::path::Path;
@@ -18,7 +18,8 @@ use std::rt::Files;
 /// words name one file, or that an output is the file of a standard stream, which command was meant
 /// and how it is called, which input is not there or which output can't be written and what the
 /// system says of it, what stands where an input leaves its grammar. Where a box file makes no
-/// sense, though it is right by its grammar, this is told too, whatever the status.
+/// sense, though it is right by its grammar, this is told too, whatever the status, and so is a
+/// handover that is gone on from and has no seal.
 pub fn tell_more<R: AllocGlobal + Files + Eprint>(
     rt: &R,
     words: &[Text],
@@ -130,7 +131,11 @@ fn tell_fault<R: AllocGlobal + Files + Eprint>(
 fn line_fault(fault: HandFault) -> LineFault {
     let cause = match fault.cause {
         HandCause::Line(cause) => cause,
-        HandCause::Count | HandCause::Move(_) | HandCause::Released => LineCause::OutOfRange,
+        HandCause::Box
+        | HandCause::Capture
+        | HandCause::Count
+        | HandCause::Move(_)
+        | HandCause::Released => LineCause::OutOfRange,
     };
     LineFault {
         line: fault.line,
@@ -151,7 +156,7 @@ fn tell_box<R: AllocGlobal + Files + Eprint>(
     }
 }
 
-/// What makes no sense in the box files, if the command has any.
+/// What makes no sense in the box files, if the command has any, and that nothing ties a handover to its box.
 fn tell_of_box<R: AllocGlobal + Files + Eprint>(rt: &R, words: &[Text]) -> io::Result<()> {
     let Some(command) = read_command(read_line(words)) else {
         return Ok(());
@@ -162,5 +167,8 @@ fn tell_of_box<R: AllocGlobal + Files + Eprint>(rt: &R, words: &[Text]) -> io::R
     if let Some(name) = second_box(command) {
         boxes::warn(rt, name)?;
     }
-    Ok(())
+    match command {
+        Command::Resume(names) => files::warn_unsealed(rt, names.handover),
+        _ => Ok(()),
+    }
 }

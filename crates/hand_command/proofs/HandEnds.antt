@@ -1,5 +1,5 @@
 -- What a whole hand-over leaves in its files.
-use Rattle.std.proofs.Common.{◌≡◌, ℕ, List, [], ◌++◌, refl, sym, subst, inl, inr, Result, Ok, Err}
+use Rattle.std.proofs.Common.{◌≡◌, ℕ, List, [], ◌++◌, refl, sym, subst, inl, inr, Option, Result, Ok, Err}
 use Rattle.std.specs.Prelude.{⊤, IsErrOf, OnOk}
 use Rattle.plain_text.specs.declared.limit.Limit.{Limit}
 use Rattle.plain_machine.specs.Program.{Meaning}
@@ -8,7 +8,6 @@ use Rattle.recovery_world.specs.declared.event.Event.{Event}
 use Rattle.recovery_world.specs.World.{Setting, opening}
 use Rattle.recovery_world.specs.Files.{done_line}
 use Rattle.run_command.specs.FromRecoveryCore.{Systemed}
-use Rattle.handover.specs.Images.{image_text}
 use Rattle.handover_world.specs.declared.unready.Unready.{Unready}
 use Rattle.output_files.specs.declared.error.OutputError.{OutputError}
 use Rattle.output_files.specs.declared.error.OutputError.TheVariants as output
@@ -24,13 +23,14 @@ use Rattle.run_command.specs.Running.{GoesOn, StoppedThere}
 use Rattle.hand_command.specs.declared.error.HandError.{HandError}
 use Rattle.hand_command.specs.declared.error.HandError.TheVariants as hand
 use Rattle.hand_command.specs.Errors.{hand_error_of, hand_result_of}
-use Rattle.hand_command.specs.Hand.{HasBegunHand, HasHanded, IsNotReady, resting}
+use Rattle.hand_command.specs.Hand.{HasBegunHand, HasHanded, handed_text, IsNotReady, resting}
 use Rattle.hand_command.specs.Handing.{EndsHand, LeftUnready}
 use Rattle.hand_command.proofs.HandSteps.{failed_hand}
 
-module _ {V : Type 0} (s : Setting V) (names : OutputNames) (events : List Event) (a b : Shown) where
+module _ {V : Type 0} (seal : Option (List ℕ)) (s : Setting V) (names : OutputNames) (events : List Event)
+    (a b : Shown) where
   -- a first part was written, whatever it came to
-  pub hand_begun : (r : Result ⊤ HandError) → EndsHand r s names events a b → HasBegunHand s names events a b
+  pub hand_begun : (r : Result ⊤ HandError) → EndsHand r seal s names events a b → HasBegunHand seal s names events a b
   hand_begun (Ok done) h = (h.0, inr (inr h.1), begun_all h.0 a b h.2)
   hand_begun (Err (hand.Limit limit)) h =
       (h.writes, inr (inl (limit, h.until)), begun_all h.writes a b h.written)
@@ -51,7 +51,7 @@ module _ {V : Type 0} (s : Setting V) (names : OutputNames) (events : List Event
   )
 
   -- nothing was written
-  pub hand_nothing : HasBegun (opening_writes names s.fractions) a b → HasBegunHand s names events a b
+  pub hand_nothing : HasBegun (opening_writes names s.fractions) a b → HasBegunHand seal s names events a b
   hand_nothing begun = (
     writes_of names s.fractions [],
     inl (record {
@@ -67,21 +67,21 @@ module _ {V : Type 0} (s : Setting V) (names : OutputNames) (events : List Event
   )
 
   module _ (apart : names.released ≡ names.schedule → ⊥) where
-    pub hand_whole : (r : Result ⊤ HandError) → EndsHand r s names events a b
-        → OnOk r (HasHanded s names events a b)
+    pub hand_whole : (r : Result ⊤ HandError) → EndsHand r seal s names events a b
+        → OnOk r (HasHanded seal s names events a b)
     hand_whole (Ok done) (writes, handover, written) = record {
       hand = handover.hand;
       files = text_files names s.fractions apart (handover.hand.replies ++ handover.hand.last)
-          (image_text handover.hand.image) (done_line handover.hand.world) a b
+          (handed_text seal s handover.hand.image) (done_line handover.hand.world) a b
           (subst (λ (ws : List Write). HasWritten ws a b) handover.writes_are written);
     }
     hand_whole (Err error) h = tt
 
-    pub hand_unready : (r : Result ⊤ HandError) (unready : Unready) → EndsHand r s names events a b
+    pub hand_unready : (r : Result ⊤ HandError) (unready : Unready) → EndsHand r seal s names events a b
         → r ≡ Err (hand.Unready unready) → IsNotReady s names events unready a b
     hand_unready r unready h is =
         let left : LeftUnready s names events unready a b =
-        subst (λ (x : Result ⊤ HandError). EndsHand x s names events a b) is h in
+        subst (λ (x : Result ⊤ HandError). EndsHand x seal s names events a b) is h in
         record {
           replies = left.replies;
           world = left.world;
@@ -91,18 +91,19 @@ module _ {V : Type 0} (s : Setting V) (names : OutputNames) (events : List Event
           files = bare_files names s.fractions apart left.replies a b left.written;
         }
 
-    pub hand_limit : (r : Result ⊤ HandError) (limit : Limit) → EndsHand r s names events a b
+    pub hand_limit : (r : Result ⊤ HandError) (limit : Limit) → EndsHand r seal s names events a b
         → r ≡ Err (hand.Limit limit) → HasStopped s names (events ++ resting) limit a b
     hand_limit r limit h is =
         let stopped : StoppedThere s (beginning V) names (events ++ resting) limit a b =
-        subst (λ (x : Result ⊤ HandError). EndsHand x s names events a b) is h in
+        subst (λ (x : Result ⊤ HandError). EndsHand x seal s names events a b) is h in
         has_stopped s names (events ++ resting) limit stopped.writes a b apart stopped.until stopped.written
 
 -- the same events
-pub hand_same : {V : Type 0} (r : Result ⊤ HandError) (s : Setting V) (names : OutputNames) (events other : List Event)
-    (a b : Shown) → events ≡ other → EndsHand r s names events a b → EndsHand r s names other a b
-hand_same {V} r s names events other a b same h =
-    subst (λ (l : List Event). EndsHand r s names l a b) same h
+pub hand_same : {V : Type 0} (seal : Option (List ℕ)) (r : Result ⊤ HandError) (s : Setting V) (names : OutputNames)
+    (events other : List Event) (a b : Shown) → events ≡ other → EndsHand r seal s names events a b
+    → EndsHand r seal s names other a b
+hand_same {V} seal r s names events other a b same h =
+    subst (λ (l : List Event). EndsHand r seal s names l a b) same h
 
 -- an error of a hand-over is a write fault only where that of its run is
 pub fault_handed : (r : Result ⊤ RunError) → IsErrOf (hand_result_of r) hand.WriteFault → IsErrOf r run.WriteFault
@@ -119,13 +120,13 @@ fault_made w r run.WriteFault made was fault = was
 fault_made w r run.NoMemory made was fault = absurd (cc)
 
 -- the events of the script came to no end
-pub hand_failed : (A : Type 0) {P V : Type 0} (r : Result ⊤ HandError) (e : RunError) (m : Meaning V) (s : Setting V)
-    (names : OutputNames) (events : List Event) (y : Systemed P V) (lines : List ℕ) (a b : Shown)
-    → r ≡ Err (hand_error_of e) → GoesOn {A = A} (Err e) m s (beginning V) names events y lines a b
-    → EndsHand r s names events a b
-hand_failed A {P} {V} r e m s names events y lines a b is h =
-    subst (λ (x : Result ⊤ HandError). EndsHand x s names events a b) (sym is)
-    (failed_hand A m s names events y lines a b e h)
+pub hand_failed : (seal : Option (List ℕ)) (A : Type 0) {P V : Type 0} (r : Result ⊤ HandError) (e : RunError)
+    (m : Meaning V) (s : Setting V) (names : OutputNames) (events : List Event) (y : Systemed P V) (lines : List ℕ)
+    (a b : Shown) → r ≡ Err (hand_error_of e) → GoesOn {A = A} (Err e) m s (beginning V) names events y lines a b
+    → EndsHand r seal s names events a b
+hand_failed seal A {P} {V} r e m s names events y lines a b is h =
+    subst (λ (x : Result ⊤ HandError). EndsHand x seal s names events a b) (sym is)
+    (failed_hand seal A m s names events y lines a b e h)
 
 -- the same where the lines that are gathered could not be written
 pub fault_lines : {A B : Type 0} (w : Result B HandError) (r : Result A OutputError) (e : OutputError)

@@ -1,6 +1,6 @@
 -- What a hand-over comes to, step by step.
 use Rattle.std.proofs.Common.{◌≡◌, ℕ, List, [], ◌∷◌, ◌++◌, refl, sym, ap, ◌∙◌, append-nil, append_assoc, subst}
-use Rattle.std.proofs.Common.{inl, inr, Result, Ok, Err}
+use Rattle.std.proofs.Common.{inl, inr, Option, Result, Ok, Err}
 use Rattle.std.specs.Prelude.{⊤, ◌⊎◌, All}
 use Rattle.std.proofs.lemmas.List.Elements.{All-append, All-nil}
 use Rattle.plain_text.specs.declared.limit.Limit.{Limit}
@@ -28,33 +28,34 @@ use Rattle.run_writes.proofs.ScriptAnswers.{answers_perform, answers_then, relea
 use Rattle.run_command.specs.Running.{GoesOn, HasBegunSome, HasCome}
 use Rattle.run_command.proofs.Going.{some_longer, until_longer}
 use Rattle.hand_command.specs.Errors.{hand_error_of, hand_result_of}
-use Rattle.hand_command.specs.Hand.{HandsOver, HasBegunHand, WritesHandover, image_writes, resting}
+use Rattle.hand_command.specs.Hand.{HandsOver, HasBegunHand, WritesHandover, handed_text, image_writes, resting}
 use Rattle.hand_command.specs.Handing.{EndsHand, LeftUnready, WritesImage}
 use Rattle.hand_command.proofs.RestingWorlds.{RestingLaws}
 
 -- a first part of what the events and the last four write
-some_hand : {V : Type 0} (s : Setting V) (names : OutputNames) (events : List Event) (a b : Shown)
-    → HasBegunSome s (beginning V) names (events ++ resting) a b → HasBegunHand s names events a b
-some_hand s names events a b (writes, (inl some), begun) = (writes, inl some, begun)
-some_hand s names events a b (writes, (inr until), begun) = (writes, inr (inl until), begun)
+some_hand : {V : Type 0} (seal : Option (List ℕ)) (s : Setting V) (names : OutputNames) (events : List Event)
+    (a b : Shown) → HasBegunSome s (beginning V) names (events ++ resting) a b → HasBegunHand seal s names events a b
+some_hand seal s names events a b (writes, (inl some), begun) = (writes, inl some, begun)
+some_hand seal s names events a b (writes, (inr until), begun) = (writes, inr (inl until), begun)
 
 -- the events of the script came to no end
-pub failed_hand : (A : Type 0) {P V : Type 0} (m : Meaning V) (s : Setting V) (names : OutputNames)
-    (events : List Event) (y : Systemed P V) (lines : List ℕ) (a b : Shown) (e : RunError)
+pub failed_hand : (seal : Option (List ℕ)) (A : Type 0) {P V : Type 0} (m : Meaning V) (s : Setting V)
+    (names : OutputNames) (events : List Event) (y : Systemed P V) (lines : List ℕ) (a b : Shown) (e : RunError)
     → GoesOn {A = A} (Err e) m s (beginning V) names events y lines a b
-    → EndsHand (Err (hand_error_of e)) s names events a b
-failed_hand A {P} {V} m s names events y lines a b (run.Limit limit) h = record {
+    → EndsHand (Err (hand_error_of e)) seal s names events a b
+failed_hand seal A {P} {V} m s names events y lines a b (run.Limit limit) h = record {
   writes = h.writes;
   until = until_longer s (beginning V) names events resting limit h.writes h.until;
   written = h.written;
 }
-failed_hand A {P} {V} m s names events y lines a b run.WriteFault h =
-    some_hand s names events a b (some_longer s (beginning V) names events resting a b h)
-failed_hand A {P} {V} m s names events y lines a b run.NoMemory h =
-    some_hand s names events a b (some_longer s (beginning V) names events resting a b h)
+failed_hand seal A {P} {V} m s names events y lines a b run.WriteFault h =
+    some_hand seal s names events a b (some_longer s (beginning V) names events resting a b h)
+failed_hand seal A {P} {V} m s names events y lines a b run.NoMemory h =
+    some_hand seal s names events a b (some_longer s (beginning V) names events resting a b h)
 
-module _ {P V : Type 0} (m : Meaning V) (s : Setting V) (names : OutputNames) (events : List Event)
-    (y : Systemed P V) (lines : List ℕ) (a b : Shown) (come : HasCome m s (beginning V) names events y lines a b) where
+module _ {P V : Type 0} (seal : Option (List ℕ)) (m : Meaning V) (s : Setting V) (names : OutputNames)
+    (events : List Event) (y : Systemed P V) (lines : List ℕ) (a b : Shown)
+    (come : HasCome m s (beginning V) names events y lines a b) where
   abbrev pub ready_point : Point V
   ready_point = record { world = come.world; replies = come.replies }
 
@@ -101,7 +102,7 @@ module _ {P V : Type 0} (m : Meaning V) (s : Setting V) (names : OutputNames) (e
     writes_are = until.writes_are;
   }
 
-  begun_behind : (c : Shown) → HasBegunSome s ready_point names resting a c → HasBegunHand s names events a c
+  begun_behind : (c : Shown) → HasBegunSome s ready_point names resting a c → HasBegunHand seal s names events a c
   begun_behind c (writes, (inl some), begun) = (writes, inl (some_behind writes some), begun)
   begun_behind c (writes, (inr (limit, until)), begun) = (
     writes,
@@ -112,7 +113,7 @@ module _ {P V : Type 0} (m : Meaning V) (s : Setting V) (names : OutputNames) (e
   -- the last four events came to no end
   pub stopped_behind : (z : Systemed P V) (more : List ℕ) (c : Shown) (e : RunError)
       → GoesOn {A = ⊤} (Err e) m s ready_point names resting z more a c
-      → EndsHand (Err (hand_error_of e)) s names events a c
+      → EndsHand (Err (hand_error_of e)) seal s names events a c
   stopped_behind z more c (run.Limit limit) h = record {
     writes = h.writes;
     until = until_behind limit h.writes h.until;
@@ -161,11 +162,12 @@ module _ {P V : Type 0} (m : Meaning V) (s : Setting V) (names : OutputNames) (e
     replied = writes_of names s.fractions (come.replies ++ rest.replies)
 
     handover : (image : Image) → IsImageOf s rest.world image → FitsImage image
-        → WritesHandover s names events (replied ++ image_writes names image (done_line rest.world))
+        → WritesHandover seal s names events
+        (replied ++ image_writes names (handed_text seal s image) (done_line rest.world))
     handover image is fits = record { hand = hands_over image is fits; writes_are = refl }
 
     -- the image was not begun
-    bare : (d : Shown) → HasBegun replied a d → HasBegunHand s names events a d
+    bare : (d : Shown) → HasBegun replied a d → HasBegunHand seal s names events a d
     bare d begun = (
       replied,
       inl (record {
@@ -182,25 +184,25 @@ module _ {P V : Type 0} (m : Meaning V) (s : Setting V) (names : OutputNames) (e
     )
 
     -- the image is written, as far as it comes
-    pub image_goes : (r : Result ⊤ OutputError) (d : Shown) → WritesImage r s rest.world names replied a d
-        → EndsHand (hand_result_of (run_result_of r)) s names events a d
+    pub image_goes : (r : Result ⊤ OutputError) (d : Shown) → WritesImage r seal s rest.world names replied a d
+        → EndsHand (hand_result_of (run_result_of r)) seal s names events a d
     image_goes r d h = go r h
       where
         stops : HasBegun replied a d
             ⊎ ((image : Image) × IsImageOf s rest.world image × FitsImage image
-            × HasBegun (replied ++ image_writes names image (done_line rest.world)) a d)
-            → HasBegunHand s names events a d
+            × HasBegun (replied ++ image_writes names (handed_text seal s image) (done_line rest.world)) a d)
+            → HasBegunHand seal s names events a d
         stops (inl begun) = bare d begun
         stops (inr (image, is, fits, begun)) = (
-          replied ++ image_writes names image (done_line rest.world),
+          replied ++ image_writes names (handed_text seal s image) (done_line rest.world),
           inr (inr (handover image is fits)),
           begun,
         )
 
-        go : (r : Result ⊤ OutputError) → WritesImage r s rest.world names replied a d
-            → EndsHand (hand_result_of (run_result_of r)) s names events a d
+        go : (r : Result ⊤ OutputError) → WritesImage r seal s rest.world names replied a d
+            → EndsHand (hand_result_of (run_result_of r)) seal s names events a d
         go (Ok done) (image, is, fits, written) = (
-          replied ++ image_writes names image (done_line rest.world),
+          replied ++ image_writes names (handed_text seal s image) (done_line rest.world),
           handover image is fits,
           written,
         )
@@ -221,10 +223,10 @@ module _ {P V : Type 0} (m : Meaning V) (s : Setting V) (names : OutputNames) (e
 
   -- or they could not be
   pub lines_begun : (e : OutputError) (c : Shown) → HasBegun (writes_of names s.fractions come.replies) a c
-      → EndsHand (Err (hand_error_of (run_error_of e))) s names events a c
+      → EndsHand (Err (hand_error_of (run_error_of e))) seal s names events a c
   lines_begun e c begun = go e
     where
-      some : HasBegunHand s names events a c
+      some : HasBegunHand seal s names events a c
       some = (
         writes_of names s.fractions come.replies,
         inl (record {
@@ -239,6 +241,6 @@ module _ {P V : Type 0} (m : Meaning V) (s : Setting V) (names : OutputNames) (e
         begun,
       )
 
-      go : (e : OutputError) → EndsHand (Err (hand_error_of (run_error_of e))) s names events a c
+      go : (e : OutputError) → EndsHand (Err (hand_error_of (run_error_of e))) seal s names events a c
       go output.WriteFault = some
       go output.NoMemory = some

@@ -1,27 +1,28 @@
 -- The image of a system is written.
 use Rattle.std.proofs.Common.{◌≡◌, ℕ, List, [], ◌∷◌, ◌++◌, refl, ap, ◌∙◌, append-nil, subst, inl, inr, length}
-use Rattle.std.proofs.Common.{Result, Ok, Err}
+use Rattle.std.proofs.Common.{Option, Result, Ok, Err}
 use Rattle.std.specs.Prelude.{⊤}
 use Rattle.std.specs.Result.{IsErr}
 use Rattle.world_io.specs.World.{Shown}
 use Rattle.recovery_world.specs.World.{Setting, World as SystemWorld}
 use Rattle.recovery_world.specs.Files.{done_line}
 use Rattle.handover.specs.declared.image.Image.{Image}
-use Rattle.handover.specs.Images.{FitsImage, image_text}
+use Rattle.handover.specs.Images.{FitsImage}
 use Rattle.handover_world.specs.Images.{IsImageOf}
 use Rattle.output_files.specs.declared.error.OutputError.{OutputError}
 use Rattle.output_files.specs.Writes.{Write, Appends, Reports, HasBegun, HasGathered}
 use Rattle.output_files.specs.Written.{Writes}
 use Rattle.output_files.proofs.Effects.{gathered_begun}
 use Rattle.run_writes.specs.Run.{OutputNames, counts_line}
-use Rattle.hand_command.specs.Hand.{image_writes}
+use Rattle.hand_command.specs.Hand.{handed_text, image_writes}
 use Rattle.hand_command.specs.Handing.{WritesImage}
 use Rattle.hand_command.proofs.Resuming.{names_long}
 
-module _ {V : Type 0} (s : Setting V) (w : SystemWorld V) (names : OutputNames) (writes : List Write) (a : Shown) where
+module _ {V : Type 0} (seal : Option (List ℕ)) (s : Setting V) (w : SystemWorld V) (names : OutputNames)
+    (writes : List Write) (a : Shown) where
   -- there is no image, or no text of it
   pub no_image : (r : Result ⊤ OutputError) (lines : List ℕ) (b : Shown) → IsErr r → HasGathered writes lines a b
-      → WritesImage r s w names writes a b
+      → WritesImage r seal s w names writes a b
   no_image (Ok done) lines b err gathered = absurd (cc)
   no_image (Err error) lines b err gathered =
       inl (subst (λ (ws : List Write). HasBegun ws a b) (append-nil writes)
@@ -35,18 +36,20 @@ module _ {V : Type 0} (s : Setting V) (w : SystemWorld V) (names : OutputNames) 
       rw (is.fed, is.epoch, long) refl
 
   pub image_written : (r : Result ⊤ OutputError) (image : Image) (text line : List ℕ) (d : Shown)
-      → IsImageOf s w image → FitsImage image → text ≡ image_text image
+      → IsImageOf s w image → FitsImage image → text ≡ handed_text seal s image
       → line ≡ counts_line image.fed image.epoch (length image.released)
       → Writes r (writes ++ (Appends names.schedule text ∷ Reports line ∷ [])) a d
-      → WritesImage r s w names writes a d
+      → WritesImage r seal s w names writes a d
   image_written r image text line d is fits text_is line_is h = go r here
     where
-      here : Writes r (writes ++ image_writes names image (done_line w)) a d
+      here : Writes r (writes ++ image_writes names (handed_text seal s image) (done_line w)) a d
       here =
-          subst (λ (l : List ℕ). Writes r (writes ++ image_writes names image l) a d) (line_is ∙ counts image is)
+          subst (λ (l : List ℕ). Writes r (writes ++ image_writes names (handed_text seal s image) l) a d)
+          (line_is ∙ counts image is)
           (subst (λ (l : List ℕ). Writes r (writes ++ (Appends names.schedule l ∷ Reports line ∷ [])) a d) text_is h)
 
-      go : (r : Result ⊤ OutputError) → Writes r (writes ++ image_writes names image (done_line w)) a d
-          → WritesImage r s w names writes a d
+      go : (r : Result ⊤ OutputError)
+          → Writes r (writes ++ image_writes names (handed_text seal s image) (done_line w)) a d
+          → WritesImage r seal s w names writes a d
       go (Ok done) h = (image, is, fits, h)
       go (Err error) h = inr (image, is, fits, h)

@@ -1,6 +1,7 @@
 -- What the command `hand` writes, and in which order: what `run` writes of the events, but for its end; where the
--- system is ready then, what four more events leave, the text of the image, and the last line.
-use Rattle.std.specs.Prelude.{◌≡◌, ◌⊎◌, ℕ, All, List, [], ◌∷◌, ◌++◌, Ok, Err}
+-- system is ready then, what four more events leave, the text of the image, with the seal of the box and the packets in
+-- front of it where the box is sealed, and the last line.
+use Rattle.std.specs.Prelude.{◌≡◌, ◌⊎◌, ℕ, All, List, [], ◌∷◌, ◌++◌, Option, Ok, Err}
 use Rattle.plain_text.specs.declared.limit.Limit.{Limit}
 use Rattle.world_io.specs.World.{Shown}
 use Rattle.recovery_world.specs.declared.event.Event.{Event}
@@ -10,6 +11,7 @@ use Rattle.recovery_world.specs.Files.{done_line}
 use Rattle.recovery_laws.specs.Sound.{Sound}
 use Rattle.handover.specs.declared.image.Image.{Image}
 use Rattle.handover.specs.Images.{FitsImage, image_text}
+use Rattle.handover_seal.specs.Seals.{seal_after, sealed_text}
 use Rattle.handover_world.specs.declared.unready.Unready.{Unready}
 use Rattle.handover_world.specs.Images.{IsAtRest, IsImageOf}
 use Rattle.handover_world.specs.Ready.{IsReadiness}
@@ -50,31 +52,35 @@ pub record HandsOver {V : Type 0} (s : Setting V) (events : List Event) : Type 0
 
 -- The writes
 
-abbrev pub image_writes : OutputNames → Image → List ℕ → List Write
-image_writes names image line = Appends names.schedule (image_text image) ∷ Reports line ∷ []
+-- the text of an image, sealed where the box file has this digest
+abbrev pub handed_text : {V : Type 0} → Option (List ℕ) → Setting V → Image → List ℕ
+handed_text seal s image = sealed_text (seal_after seal s.fractions s.packets image.fed) (image_text image)
+
+abbrev pub image_writes : OutputNames → List ℕ → List ℕ → List Write
+image_writes names text line = Appends names.schedule text ∷ Reports line ∷ []
 
 -- The system was handed over.
-pub record WritesHandover {V : Type 0} (s : Setting V) (names : OutputNames) (events : List Event)
-    (writes : List Write) : Type 0 where
+pub record WritesHandover {V : Type 0} (seal : Option (List ℕ)) (s : Setting V) (names : OutputNames)
+    (events : List Event) (writes : List Write) : Type 0 where
   pub hand : HandsOver s events
   pub writes_are : writes
       ≡ writes_of names s.fractions (hand.replies ++ hand.last)
-      ++ image_writes names hand.image (done_line hand.world)
+      ++ image_writes names (handed_text seal s hand.image) (done_line hand.world)
 
 -- a hand-over behind these events writes this, so far as it comes
-abbrev pub IsWrittenHand : {V : Type 0} → Setting V → OutputNames → List Event → List Write → Type 0
-IsWrittenHand s names events writes =
+abbrev pub IsWrittenHand : {V : Type 0} → Option (List ℕ) → Setting V → OutputNames → List Event → List Write → Type 0
+IsWrittenHand seal s names events writes =
     WritesSome s names (events ++ resting) writes
     ⊎ (((limit : Limit) × WritesUntil s names (events ++ resting) limit writes)
-    ⊎ WritesHandover s names events writes)
+    ⊎ WritesHandover seal s names events writes)
 
 -- What a call leaves
 
 -- The system was handed over: the outputs are what was released, the text of the image, and the report.
-pub record HasHanded {V : Type 0} (s : Setting V) (names : OutputNames) (events : List Event) (old new : Shown)
-    : Type 0 where
+pub record HasHanded {V : Type 0} (seal : Option (List ℕ)) (s : Setting V) (names : OutputNames) (events : List Event)
+    (old new : Shown) : Type 0 where
   pub hand : HandsOver s events
-  pub files : HasFiles names s.fractions (released_in (hand.replies ++ hand.last)) (image_text hand.image)
+  pub files : HasFiles names s.fractions (released_in (hand.replies ++ hand.last)) (handed_text seal s hand.image)
       (lines_in (hand.replies ++ hand.last) ++ done_line hand.world) old new
 
 -- The events were performed, and the system is not ready for this cause: there is no image, and no last line.
@@ -88,6 +94,6 @@ pub record IsNotReady {V : Type 0} (s : Setting V) (names : OutputNames) (events
   pub files : HasFiles names s.fractions (released_in replies) [] (lines_in replies) old new
 
 -- some first part of what a hand-over behind these events writes was written, and nothing else
-abbrev pub HasBegunHand : {V : Type 0} → Setting V → OutputNames → List Event → Shown → Shown → Type 0
-HasBegunHand s names events old new =
-    (writes : List Write) × IsWrittenHand s names events writes × HasBegun writes old new
+abbrev pub HasBegunHand : {V : Type 0} → Option (List ℕ) → Setting V → OutputNames → List Event → Shown → Shown → Type 0
+HasBegunHand seal s names events old new =
+    (writes : List Write) × IsWrittenHand seal s names events writes × HasBegun writes old new

@@ -1,5 +1,5 @@
 -- A hand-over within its steps.
-use Rattle.std.specs.Prelude.{◌≡◌, ◌⊎◌, All, List, ◌++◌, Result, Ok, Err, ⊤}
+use Rattle.std.specs.Prelude.{◌≡◌, ◌⊎◌, ℕ, All, List, ◌++◌, Option, Result, Ok, Err, ⊤}
 use Rattle.world_io.specs.World.{Shown}
 use Rattle.recovery_world.specs.declared.event.Event.{Event}
 use Rattle.recovery_world.specs.World.{Setting, World as SystemWorld}
@@ -16,18 +16,18 @@ use Rattle.run_writes.specs.Run.{OutputNames, FitsRecord, writes_of}
 use Rattle.run_command.specs.Running.{StoppedThere}
 use Rattle.hand_command.specs.declared.error.HandError.{HandError}
 use Rattle.hand_command.specs.declared.error.HandError.TheVariants as hand
-use Rattle.hand_command.specs.Hand.{resting, image_writes, WritesHandover, HasBegunHand}
+use Rattle.hand_command.specs.Hand.{resting, handed_text, image_writes, WritesHandover, HasBegunHand}
 
 -- Behind these writes the image of the world was written, and the last line; or after an error some first part of all
 -- that, where there may be no image yet.
-abbrev pub WritesImage : {V : Type 0} → Result ⊤ OutputError → Setting V → SystemWorld V → OutputNames → List Write
-    → Shown → Shown → Type 0
-WritesImage (Ok done) s w names writes old new =
+abbrev pub WritesImage : {V : Type 0} → Result ⊤ OutputError → Option (List ℕ) → Setting V → SystemWorld V
+    → OutputNames → List Write → Shown → Shown → Type 0
+WritesImage (Ok done) seal s w names writes old new =
     (image : Image) × IsImageOf s w image × FitsImage image
-    × HasWritten (writes ++ image_writes names image (done_line w)) old new
-WritesImage (Err error) s w names writes old new =
+    × HasWritten (writes ++ image_writes names (handed_text seal s image) (done_line w)) old new
+WritesImage (Err error) seal s w names writes old new =
     HasBegun writes old new ⊎ ((image : Image) × IsImageOf s w image × FitsImage image
-    × HasBegun (writes ++ image_writes names image (done_line w)) old new)
+    × HasBegun (writes ++ image_writes names (handed_text seal s image) (done_line w)) old new)
 
 -- The events were performed and all that they leave was written, and the system is not ready for this cause.
 pub record LeftUnready {V : Type 0} (s : Setting V) (names : OutputNames) (events : List Event) (unready : Unready)
@@ -41,12 +41,12 @@ pub record LeftUnready {V : Type 0} (s : Setting V) (names : OutputNames) (event
 
 -- What a hand-over behind these events came to: all was written; or an event stopped at a limit; or the system is not
 -- ready; or some first part was written.
-abbrev pub EndsHand : {V : Type 0} → Result ⊤ HandError → Setting V → OutputNames → List Event → Shown → Shown
-    → Type 0
-EndsHand (Ok done) s names events old new =
-    (writes : List Write) × WritesHandover s names events writes × HasWritten writes old new
-EndsHand {V} (Err (hand.Limit limit)) s names events old new =
+abbrev pub EndsHand : {V : Type 0} → Result ⊤ HandError → Option (List ℕ) → Setting V → OutputNames → List Event → Shown
+    → Shown → Type 0
+EndsHand (Ok done) seal s names events old new =
+    (writes : List Write) × WritesHandover seal s names events writes × HasWritten writes old new
+EndsHand {V} (Err (hand.Limit limit)) seal s names events old new =
     StoppedThere s (beginning V) names (events ++ resting) limit old new
-EndsHand (Err hand.WriteFault) s names events old new = HasBegunHand s names events old new
-EndsHand (Err hand.NoMemory) s names events old new = HasBegunHand s names events old new
-EndsHand (Err (hand.Unready unready)) s names events old new = LeftUnready s names events unready old new
+EndsHand (Err hand.WriteFault) seal s names events old new = HasBegunHand seal s names events old new
+EndsHand (Err hand.NoMemory) seal s names events old new = HasBegunHand seal s names events old new
+EndsHand (Err (hand.Unready unready)) seal s names events old new = LeftUnready s names events unready old new

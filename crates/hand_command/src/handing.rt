@@ -1,6 +1,8 @@
-ghost use Rattle.std.specs.Prelude.{◌≡◌, ◌≤◌, List, IfOk, OnOk, IsTrue, IsErrOf, Ok, false, length};
+ghost use Rattle.std.specs.Prelude.{◌≡◌, ◌≤◌, ℕ, List, Option, IfOk, OnOk, IsTrue, IsErrOf, Ok};
+ghost use Rattle.std.specs.Prelude.{false, length};
 ghost use Rattle.world_io.specs.World.{Start, Shown, is_writable, WritingFailed};
 ghost use Rattle.handover.specs.Images.{FitsImage, image_text};
+ghost use Rattle.handover_seal.specs.Seals.{AreSeals, sealed_text};
 ghost use Rattle.handover_world.specs.Ready.{IsReadiness};
 ghost use Rattle.recovery_world.specs.declared.event.Event.{Event as EventKind};
 ghost use Rattle.recovery_world.specs.World.{Setting, World as SystemWorld};
@@ -16,6 +18,7 @@ ghost use Rattle.hand_command.specs.Handing.{EndsHand, WritesImage};
 use crate::error::{HandError, handed};
 use box_program::Program;
 use handover::{Image, put_image};
+use handover_seal::{Seal, Seals, put_sealed};
 use handover_world::{reached_worlds_are_counted, ready_worlds_come_to_rest};
 use output_files::{OutputError, write_lines};
 use plain_text::{Bytes, NoMemory};
@@ -32,15 +35,17 @@ struct HandTexts {
     last: Bytes,
 }
 
-/// The texts of a system that is handed over.
-fn put_texts(alloc: Global, image: &Image) -> Result<HandTexts, NoMemory>
-    ensures image { IfOk result (λ texts. texts.image ≡ image_text image.now) }
+/// The texts of a system that is handed over with this seal.
+fn put_texts(alloc: Global, seal: Option<Seal>, image: &Image) -> Result<HandTexts, NoMemory>
+    ensures image { IfOk result (λ texts. texts.image
+        ≡ sealed_text seal (image_text image.now)) }
     ensures fits { OnOk result (FitsImage image.now) }
     ensures last { IfOk result (λ texts. texts.last
         ≡ counts_line image.now.fed image.now.epoch (length image.now.released)) }
 {
     let last = put_done(alloc, image.fed, image.epoch, image.released.len() as u64)?;
-    let image = put_image(alloc, image)?;
+    let mut image = put_image(alloc, image)?;
+    put_sealed(alloc, seal, &mut image)?;
     Ok(HandTexts { image, last })
 }
 
@@ -51,6 +56,7 @@ fn write_image<P: Program, W: World>(
     file: u32,
     system: &System<P>,
     lines: &mut Bytes,
+    seals: &Seals,
 ) -> Result<(), OutputError>
     requires runs { system.now.stopped ≡ false }
     requires writable { IsTrue (is_writable (W.ledger world.old) file) }
@@ -58,16 +64,18 @@ fn write_image<P: Program, W: World>(
     ensures cause { IsErrOf result OutputError.WriteFault
         → WritingFailed W.ledger W.healthy world.old world.new }
     ensures shows { (p : Start) → W.honest p world.new
-        → (s : Setting P.Value) (w : SystemWorld P.Value) (names : OutputNames)
+        → (s : Setting P.Value) (seal : Option (List ℕ))
+        → AreSeals seal s.fractions s.packets seals.now
+        → (w : SystemWorld P.Value) (names : OutputNames)
         (writes : List Write) (before : Shown)
         → IsOutput file names.schedule (W.shows p world.old)
         → StandsFor (P.meaning system.now.parts.program) s w system.now.parts
         → w.drawn ≤ w.moves → HasGathered writes lines.old before (W.shows p world.old)
-        → WritesImage result s w names writes before (W.shows p world.new) }
+        → WritesImage result seal s w names writes before (W.shows p world.new) }
     ensures before { (p : Start) → W.honest p world.new → W.honest p world.old }
 {
     let image = system.image()?;
-    let texts = put_texts(alloc, &image)?;
+    let texts = put_texts(alloc, seals.after(image.fed), &image)?;
     let text = texts.image.as_slice();
     write_closing(world, file, lines, text, texts.last.as_slice())
 }
@@ -79,6 +87,7 @@ fn hand_ready<P: Program, W: World>(
     outputs: OutputFiles,
     system: &mut System<P>,
     lines: &mut Bytes,
+    seals: &Seals,
 ) -> Result<(), RunError>
     requires runs { system.old.stopped ≡ false }
     requires somewhere { IsSomewhere (P.meaning system.old.parts.program) system.old }
@@ -88,21 +97,29 @@ fn hand_ready<P: Program, W: World>(
     ensures cause { IsErrOf result RunError.WriteFault
         → WritingFailed W.ledger W.healthy world.old world.new }
     ensures shows { (p : Start) → W.honest p world.new
-        → (s : Setting P.Value) (names : OutputNames)
+        → (s : Setting P.Value) (seal : Option (List ℕ))
+        → AreSeals seal s.fractions s.packets seals.now → (names : OutputNames)
         (events : List EventKind) (before : Shown)
         → IsOutput outputs.released names.released (W.shows p world.old)
         → IsOutput outputs.schedule names.schedule (W.shows p world.old)
         → (come : HasCome (P.meaning system.old.parts.program) s (beginning P.Value) names events
         system.old lines.old before (W.shows p world.old))
         → IsReadiness come.world (Ok tt)
-        → EndsHand (hand_result_of result) s names events before (W.shows p world.new) }
+        → EndsHand (hand_result_of result) seal s names events before (W.shows p world.new) }
     ensures before { (p : Start) → W.honest p world.new → W.honest p world.old }
 {
     ready_worlds_come_to_rest::<P::Value>();
     reached_worlds_are_counted::<P::Value>();
     let resting = [Event::Snap, Event::Store, Event::Crash, Event::Recover];
     perform_events(alloc, world, outputs.released, system, &resting, lines)?;
-    written(write_image(alloc, world, outputs.schedule, system, lines))
+    written(write_image(
+        alloc,
+        world,
+        outputs.schedule,
+        system,
+        lines,
+        seals,
+    ))
 }
 
 /// Hands a system over whose events were all performed, if it is ready. If not, all that they leave is written.
@@ -112,6 +129,7 @@ pub fn end_hand<P: Program, W: World>(
     outputs: OutputFiles,
     system: &mut System<P>,
     lines: &mut Bytes,
+    seals: &Seals,
 ) -> Result<(), HandError>
     requires runs { system.old.stopped ≡ false }
     requires somewhere { IsSomewhere (P.meaning system.old.parts.program) system.old }
@@ -121,17 +139,18 @@ pub fn end_hand<P: Program, W: World>(
     ensures cause { IsErrOf result HandError.WriteFault
         → WritingFailed W.ledger W.healthy world.old world.new }
     ensures shows { (p : Start) → W.honest p world.new
-        → (s : Setting P.Value) (names : OutputNames)
+        → (s : Setting P.Value) (seal : Option (List ℕ))
+        → AreSeals seal s.fractions s.packets seals.now → (names : OutputNames)
         (events : List EventKind) (before : Shown)
         → IsOutput outputs.released names.released (W.shows p world.old)
         → IsOutput outputs.schedule names.schedule (W.shows p world.old)
         → HasCome (P.meaning system.old.parts.program) s (beginning P.Value) names events
         system.old lines.old before (W.shows p world.old)
-        → EndsHand result s names events before (W.shows p world.new) }
+        → EndsHand result seal s names events before (W.shows p world.new) }
     ensures before { (p : Start) → W.honest p world.new → W.honest p world.old }
 {
     match system.ready() {
-        Ok(()) => handed(hand_ready(alloc, world, outputs, system, lines)),
+        Ok(()) => handed(hand_ready(alloc, world, outputs, system, lines, seals)),
         Err(unready) => {
             write_lines(world, lines)?;
             Err(HandError::Unready(unready))

@@ -1,5 +1,5 @@
 //! A law of runs that are handed over. It is proved, and does nothing: a caller has it by the call.
-ghost use Rattle.std.specs.Prelude.{◌≡◌, ◌++◌, List};
+ghost use Rattle.std.specs.Prelude.{◌≡◌, ◌++◌, ℕ, List, Option};
 ghost use Rattle.world_io.specs.World.{Shown};
 ghost use Rattle.recovery_world.specs.declared.event.Event.{Event};
 ghost use Rattle.recovery_world.specs.World.{Setting, World};
@@ -13,8 +13,8 @@ ghost use Rattle.hand_command.specs.Resume.{HasResumed};
 /// that bring the system to rest, and the events of the other. The lines and the released packets of the two, one
 /// behind the other, are what that run leaves, and its schedule is that of the second.
 pub fn hand_and_resume_are_one_run<X>()
-    ensures { (s : Setting X) (names others : OutputNames) (events rest : List Event)
-        (a b c d : Shown) (h : HasHanded s names events a b)
+    ensures { (seal : Option (List ℕ)) (s : Setting X) (names others : OutputNames)
+        (events rest : List Event) (a b c d : Shown) (h : HasHanded seal s names events a b)
         (goes_on : (w : World X) → IsHandedOver s w h.hand.image → HasResumed s w others rest c d)
         → Leaves s (events ++ resting ++ rest)
         (lines_in (h.hand.replies ++ h.hand.last)

@@ -8,6 +8,12 @@ pub enum HandCause {
     /// The line leaves the grammar.
     #[error("{0}")]
     Line(LineCause),
+    /// The text is one of another box file, or one of the two is sealed and the other is not.
+    #[error("another box")]
+    Box,
+    /// The text is one of other packets.
+    #[error("another capture")]
+    Capture,
     /// The counts of the state can't be, or the row of an ended epoch is not the next one.
     #[error("bad count")]
     Count,

@@ -11,6 +11,7 @@ use Rattle.world_io.specs.declared.beginning.Front.TheVariants.{All, More}
 use Rattle.world_io.specs.World.{Shown}
 use Rattle.handover.specs.declared.image.Image.{Image}
 use Rattle.handover.specs.Images.{image_form, lines_of, IsImage, FirstFault, HasTooMany}
+use Rattle.handover_seal.specs.Seals.{unsealed}
 use Rattle.handover.proofs.OneLine.{lines_are_decisive}
 use Rattle.handover.proofs.StagedTexts as staged
 use Rattle.handover.proofs.WholeImages as images
@@ -39,72 +40,72 @@ both : (text : List ℕ) (image : Image) (number : ℕ) (cause : LineCause) → 
     → FirstFault text number cause → ⊥
 both text image = staged.not_both image_form lines_are_decisive text (lines_of image)
 
-pub image_accepted : (front bytes : List ℕ) (image : Image) → IsImage front image
+pub image_accepted : (front bytes : List ℕ) (image : Image) → IsImage (unsealed front) image
     → length (lines_of image) ≤ 4000000 → IsFrontOf (All front) bytes
     → SaysImage bytes (Ok (record { text = front; image = image }))
 image_accepted front bytes image is few all =
-    let Is : List ℕ → Type 0 = λ text. IsImage text image in
+    let Is : List ℕ → Type 0 = λ text. IsImage (unsealed text) image in
     let here = subst Is (sym all.0) is in
-    (all.1, sym all.0, here, few_lines bytes image here few)
+    (all.1, sym all.0, here, few_lines (unsealed bytes) image here few)
 
-pub image_faulty : (front bytes : List ℕ) (fault : LineFault) → FirstFault front fault.line fault.cause
-    → (HasTooMany front → ⊥) → IsFrontOf (All front) bytes → SaysImage bytes (Err (error.Fault fault))
+pub image_faulty : (front bytes : List ℕ) (fault : LineFault) → FirstFault (unsealed front) fault.line fault.cause
+    → (HasTooMany (unsealed front) → ⊥) → IsFrontOf (All front) bytes → SaysImage bytes (Err (error.Fault fault))
 image_faulty front bytes fault is few all = (
-  all_judged (λ text. FirstFault text fault.line fault.cause) front bytes is all,
-  all_judged (λ text. HasTooMany text → ⊥) front bytes few all,
+  all_judged (λ text. FirstFault (unsealed text) fault.line fault.cause) front bytes is all,
+  all_judged (λ text. HasTooMany (unsealed text) → ⊥) front bytes few all,
   λ large. absurd (omega (arith, large, all.1)),
 )
 
-pub image_long : (front bytes : List ℕ) → HasTooMany front → IsFrontOf (All front) bytes
+pub image_long : (front bytes : List ℕ) → HasTooMany (unsealed front) → IsFrontOf (All front) bytes
     → SaysImage bytes (Err (error.TooLarge limit.Events))
-image_long front bytes many all = all_judged HasTooMany front bytes many all
+image_long front bytes many all = all_judged (λ text. HasTooMany (unsealed text)) front bytes many all
 
-pub cut_image_whole : (front bytes : List ℕ) (image : Image) → IsImage (whole_lines front) image
+pub cut_image_whole : (front bytes : List ℕ) (image : Image) → IsImage (unsealed (whole_lines front)) image
     → length (lines_of image) ≤ 4000000 → IsFrontOf (More front) bytes
     → SaysImage bytes (Err (error.TooLarge limit.File))
 cut_image_whole front bytes image is few cut =
-    let judged = cut_judged (λ text. IsImage text image) front bytes is cut in (
+    let judged = cut_judged (λ text. IsImage (unsealed text) image) front bytes is cut in (
       cut.1,
       (
-        (λ number cause first. absurd (both (judged_text bytes) image number cause judged first)),
-        few_lines (judged_text bytes) image judged few,
+        (λ number cause first. absurd (both (unsealed (judged_text bytes)) image number cause judged first)),
+        few_lines (unsealed (judged_text bytes)) image judged few,
       ),
     )
 
-pub cut_image_missing : (front bytes : List ℕ) (line : ℕ) → FirstFault (whole_lines front) line MissingLine
-    → (HasTooMany (whole_lines front) → ⊥) → IsFrontOf (More front) bytes
+pub cut_image_missing : (front bytes : List ℕ) (line : ℕ) → FirstFault (unsealed (whole_lines front)) line MissingLine
+    → (HasTooMany (unsealed (whole_lines front)) → ⊥) → IsFrontOf (More front) bytes
     → SaysImage bytes (Err (error.TooLarge limit.File))
 cut_image_missing front bytes line is few cut =
-    let judged = cut_judged (λ text. FirstFault text line MissingLine) front bytes is cut in (
+    let judged = cut_judged (λ text. FirstFault (unsealed text) line MissingLine) front bytes is cut in (
       cut.1,
       (
         (λ number cause first.
-            (staged.one_fault image_form lines_are_decisive (judged_text bytes) number line cause MissingLine first
-            judged).1),
-        cut_judged (λ text. HasTooMany text → ⊥) front bytes few cut,
+            (staged.one_fault image_form lines_are_decisive (unsealed (judged_text bytes)) number line cause MissingLine
+            first judged).1),
+        cut_judged (λ text. HasTooMany (unsealed text) → ⊥) front bytes few cut,
       ),
     )
 
 pub cut_image_faulty : (front bytes : List ℕ) (fault : LineFault)
-    → FirstFault (whole_lines front) fault.line fault.cause → (HasTooMany (whole_lines front) → ⊥)
+    → FirstFault (unsealed (whole_lines front)) fault.line fault.cause → (HasTooMany (unsealed (whole_lines front)) → ⊥)
     → ¬ (fault.cause ≡ MissingLine) → IsFrontOf (More front) bytes → SaysImage bytes (Err (error.Fault fault))
 cut_image_faulty front bytes fault is few other cut = (
-  cut_judged (λ text. FirstFault text fault.line fault.cause) front bytes is cut,
-  cut_judged (λ text. HasTooMany text → ⊥) front bytes few cut,
+  cut_judged (λ text. FirstFault (unsealed text) fault.line fault.cause) front bytes is cut,
+  cut_judged (λ text. HasTooMany (unsealed text) → ⊥) front bytes few cut,
   λ large. other,
 )
 
-pub cut_image_long : (front bytes : List ℕ) → HasTooMany (whole_lines front) → IsFrontOf (More front) bytes
+pub cut_image_long : (front bytes : List ℕ) → HasTooMany (unsealed (whole_lines front)) → IsFrontOf (More front) bytes
     → SaysImage bytes (Err (error.TooLarge limit.Events))
-cut_image_long front bytes many cut = cut_judged HasTooMany front bytes many cut
+cut_image_long front bytes many cut = cut_judged (λ text. HasTooMany (unsealed text)) front bytes many cut
 
 -- One answer
 
 -- the two ways to pass a limit
 abbrev Passes : List ℕ → Limit → Type 0
 Passes bytes passed =
-    ((passed ≡ limit.Events) × HasTooMany (judged_text bytes))
-    ⊎ ((passed ≡ limit.File) × (67108864 < length bytes) × ImageMayGoOn (judged_text bytes))
+    ((passed ≡ limit.Events) × HasTooMany (unsealed (judged_text bytes)))
+    ⊎ ((passed ≡ limit.File) × (67108864 < length bytes) × ImageMayGoOn (unsealed (judged_text bytes)))
 
 image_limit : (bytes : List ℕ) (passed : Limit) → ImagePasses bytes passed → Passes bytes passed
 image_limit bytes limit.File h = inr (refl, h.0, h.1)
@@ -121,15 +122,15 @@ file_eq a b text image =
 image_both : (bytes : List ℕ) (file : ImageFile) (fault : LineFault) → SaysImage bytes (Ok file)
     → SaysImage bytes (Err (error.Fault fault)) → ⊥
 image_both bytes file fault a b =
-    let First : List ℕ → Type 0 = λ text. FirstFault text fault.line fault.cause in
-    both bytes file.image fault.line fault.cause a.2 (subst First (within bytes a.0) b.0)
+    let First : List ℕ → Type 0 = λ text. FirstFault (unsealed text) fault.line fault.cause in
+    both (unsealed bytes) file.image fault.line fault.cause a.2 (subst First (within bytes a.0) b.0)
 
 image_fits : (bytes : List ℕ) (file : ImageFile) (passed : Limit) → SaysImage bytes (Ok file)
     → ImagePasses bytes passed → ⊥
 image_fits bytes file passed a b = by_limit (image_limit bytes passed b)
   where
     by_limit : Passes bytes passed → ⊥
-    by_limit (inl h) = a.3 (subst HasTooMany (within bytes a.0) h.1)
+    by_limit (inl h) = a.3 (subst (λ (text : List ℕ). HasTooMany (unsealed text)) (within bytes a.0) h.1)
     by_limit (inr h) = no_room (length bytes) a.0 h.1
 
 image_fault_fits : (bytes : List ℕ) (fault : LineFault) (passed : Limit) → SaysImage bytes (Err (error.Fault fault))
@@ -153,16 +154,15 @@ pub one_image : (bytes : List ℕ) (a b : Result ImageFile (InputError LineFault
     → SaysImage bytes a → SaysImage bytes b → a ≡ b
 one_image bytes (Ok a) (Ok b) d e x y =
     ap (λ (f : ImageFile). Ok f)
-    (file_eq a b (x.1 ∙ sym y.1) (images.one_image bytes a.image b.image x.2 y.2))
+    (file_eq a b (x.1 ∙ sym y.1) (images.one_image (unsealed bytes) a.image b.image x.2 y.2))
 one_image bytes (Ok a) (Err (error.Fault f)) d e x y = absurd (image_both bytes a f x y)
 one_image bytes (Ok a) (Err (error.TooLarge l)) d e x y = absurd (image_fits bytes a l x y)
 one_image bytes (Ok a) (Err error.ReadFault) d e x y = absurd e
 one_image bytes (Ok a) (Err error.NoMemory) d e x y = absurd e
 one_image bytes (Err (error.Fault f)) (Ok b) d e x y = absurd (image_both bytes b f y x)
 one_image bytes (Err (error.Fault f)) (Err (error.Fault g)) d e x y =
-    ap (λ (h : LineFault). Err (error.Fault h))
-    (same_fault f g (staged.one_fault image_form lines_are_decisive (judged_text bytes) f.line g.line f.cause g.cause
-    x.0 y.0))
+    ap (λ (h : LineFault). Err (error.Fault h)) (same_fault f g (staged.one_fault image_form lines_are_decisive
+    (unsealed (judged_text bytes)) f.line g.line f.cause g.cause x.0 y.0))
 one_image bytes (Err (error.Fault f)) (Err (error.TooLarge l)) d e x y = absurd (image_fault_fits bytes f l x y)
 one_image bytes (Err (error.Fault f)) (Err error.ReadFault) d e x y = absurd e
 one_image bytes (Err (error.Fault f)) (Err error.NoMemory) d e x y = absurd e

@@ -26,6 +26,7 @@ use Rattle.plain_player.specs.Schedules.{schedule_form}
 use Rattle.plan_script.specs.declared.plan.PlanLine.{PlanLine}
 use Rattle.plan_text.specs.Plans.{plan_form}
 use Rattle.handover.specs.Images as image
+use Rattle.handover_seal.specs.Seals.{unsealed}
 use Rattle.input_files.specs.declared.capture_file.Capture.{Capture}
 use Rattle.input_files.specs.declared.image_file.ImageFile.{ImageFile}
 use Rattle.input_files.specs.declared.errors.InputError.{InputError}
@@ -96,7 +97,7 @@ SaysSchedule bytes answer = SaysFile schedule_form bytes answer
 abbrev pub SaysPlan : List ℕ → Result (List PlanLine) (InputError LineFault) → Type 0
 SaysPlan bytes answer = SaysFile plan_form bytes answer
 
--- Texts of a handover
+-- Texts of a handover: where they are sealed, what stands after the line of the seal
 
 -- the lines that are judged have no fault but that a line is missing, and are not too many
 abbrev pub ImageMayGoOn : List ℕ → Type 0
@@ -105,19 +106,19 @@ ImageMayGoOn text =
     × (image.HasTooMany text → ⊥)
 
 abbrev pub ImagePasses : List ℕ → Limit → Type 0
-ImagePasses bytes limit.File = (MOST_FILE_BYTES < length bytes) × ImageMayGoOn (judged_text bytes)
+ImagePasses bytes limit.File = (MOST_FILE_BYTES < length bytes) × ImageMayGoOn (unsealed (judged_text bytes))
 ImagePasses bytes limit.Packets = ⊥
-ImagePasses bytes limit.Events = image.HasTooMany (judged_text bytes)
+ImagePasses bytes limit.Events = image.HasTooMany (unsealed (judged_text bytes))
 ImagePasses bytes limit.Moves = ⊥
 ImagePasses bytes limit.OutputBytes = ⊥
 
 abbrev pub SaysImage : List ℕ → Result ImageFile (InputError LineFault) → Type 0
 SaysImage bytes (Ok file) =
     (length bytes ≤ MOST_FILE_BYTES)
-    × (file.text ≡ bytes) × image.IsImage bytes file.image × (image.HasTooMany bytes → ⊥)
+    × (file.text ≡ bytes) × image.IsImage (unsealed bytes) file.image × (image.HasTooMany (unsealed bytes) → ⊥)
 SaysImage bytes (Err (error.Fault fault)) =
-    image.FirstFault (judged_text bytes) fault.line fault.cause
-    × (image.HasTooMany (judged_text bytes) → ⊥)
+    image.FirstFault (unsealed (judged_text bytes)) fault.line fault.cause
+    × (image.HasTooMany (unsealed (judged_text bytes)) → ⊥)
     × (MOST_FILE_BYTES < length bytes → ¬ (fault.cause ≡ MissingLine))
 SaysImage bytes (Err (error.TooLarge passed)) = ImagePasses bytes passed
 SaysImage bytes (Err error.ReadFault) = ⊥

@@ -5,6 +5,7 @@ ghost use Rattle.world_io.specs.declared.beginning.Front.TheVariants as front_of
 ghost use Rattle.world_io.specs.Stream.{Rose};
 ghost use Rattle.world_io.specs.World.{Start};
 ghost use Rattle.handover.specs.Images.{IsImage};
+ghost use Rattle.handover_seal.specs.Seals.{unsealed};
 ghost use Rattle.input_files.specs.Answers.{SaysImage};
 ghost use Rattle.input_files.specs.Files.{KeepsOutputs, OnlyReads, OpensAll};
 ghost use Rattle.input_files.specs.Judging.{JudgesImage};
@@ -13,11 +14,12 @@ ghost use Rattle.input_files.specs.Texts.{IsFrontOf, whole_lines};
 use crate::InputError;
 use crate::texts::{read_front_of, whole_lines};
 use handover::{Image, ImageError, read_image};
+use handover_seal::unsealed;
 use plain_text::{Bytes, Limit, LineCause, LineFault, Text};
 use std::alloc::Global;
 use world_io::{Front, World};
 
-/// A text of a handover that was accepted, and the image of a system that it says.
+/// A text of a handover that was accepted, and the image of a system that it says, after its seal where it is sealed.
 #[derive(Drop)]
 pub struct ImageFile {
     /// The text, as bytes.
@@ -29,7 +31,8 @@ pub struct ImageFile {
 /// Reads and judges the text of a handover.
 ///
 /// Of a file that is larger than `MOST_FILE_BYTES` the lines that end within these bytes are judged. Their faults come
-/// first, but not that a line is missing, or that they are too many; otherwise the file is too large.
+/// first, but not that a line is missing, or that they are too many; otherwise the file is too large. Of a text that is
+/// sealed the lines after the seal are judged; whose seal it is does not matter here.
 pub fn read_image_file<W: World>(
     alloc: Global,
     world: &mut W,
@@ -41,7 +44,7 @@ pub fn read_image_file<W: World>(
         (OpensAll (name.now ∷ []) (W.ledger world.old) (W.ledger world.new)) }
     ensures cause { IsErrOf result InputError.ReadFault
         → Rose (W.ledger world.old).read_faults (W.ledger world.new).read_faults }
-    ensures image { IfOk result (λ file. IsImage file.text file.image) }
+    ensures image { IfOk result (λ file. IsImage (unsealed file.text) file.image) }
     ensures judged { (p : Start) → W.honest p world.new
         → JudgesImage (W.healthy world.old) name.now result (W.shows p world.old) }
     ensures keeps { (p : Start) → W.honest p world.new
@@ -57,10 +60,10 @@ pub fn read_image_file<W: World>(
 /// Judges a whole text of a handover.
 fn judge_all(alloc: Global, text: Bytes) -> Result<ImageFile, InputError<LineFault>>
     ensures says { (bytes : List ℕ) → IsFrontOf (front_of.All text) bytes → SaysImage bytes result }
-    ensures image { IfOk result (λ file. IsImage file.text file.image) }
+    ensures image { IfOk result (λ file. IsImage (unsealed file.text) file.image) }
     ensures quiet { ¬ IsErrOf result InputError.ReadFault }
 {
-    match read_image(alloc, text.as_slice()) {
+    match read_image(alloc, unsealed(text.as_slice())) {
         Ok(image) => Ok(ImageFile { text, image }),
         Err(ImageError::Fault(fault)) => Err(InputError::Fault(fault)),
         Err(ImageError::TooMany) => Err(InputError::TooLarge(Limit::Events)),
@@ -74,7 +77,7 @@ fn judge_cut(alloc: Global, lines: &[u8]) -> InputError<LineFault>
         → IsFrontOf (front_of.More front) bytes → SaysImage bytes (Err result) }
     ensures quiet { result ≢ InputError.ReadFault }
 {
-    match read_image(alloc, lines) {
+    match read_image(alloc, unsealed(lines)) {
         Ok(_image) => InputError::TooLarge(Limit::File),
         Err(ImageError::Fault(fault)) => match fault.cause {
             LineCause::MissingLine => InputError::TooLarge(Limit::File),

@@ -1,9 +1,12 @@
 -- The files of a run that goes on from a handover, judged in their turn: what is true of them, and that they decide one
 -- status.
-use Rattle.std.proofs.Common.{◌≡◌, List, refl, sym, ap, ◌∙◌, ◌⊎◌, inl, inr, Err}
+use Rattle.std.proofs.Common.{◌≡◌, List, refl, sym, ap, ◌∙◌, ◌⊎◌, inl, inr, Err, None, Some}
 use Rattle.box_conf.specs.declared.kind.BoxConf.{BoxConf}
 use Rattle.world_io.specs.World.{Shown}
 use Rattle.recovery_world.specs.declared.event.Event.{Event}
+use Rattle.handover_seal.specs.declared.seal.SealFault.{SealFault}
+use Rattle.handover_seal.specs.Seals.{unsealed}
+use Rattle.handover_seal.proofs.Opened.{one_seal}
 use Rattle.hand_faults.specs.declared.fault.HandFault.{HandFault}
 use Rattle.hand_faults.proofs.OneFault.{none_refused, one_refused}
 use Rattle.input_files.specs.declared.capture_file.Capture.{Capture}
@@ -20,7 +23,7 @@ use Rattle.job_commands.specs.HandWords.{ResumeNames}
 use Rattle.job_commands.specs.Judging.{IsDecided}
 use Rattle.job_commands.specs.Resume.{AcceptsImageOf, AcceptsResumeInputs, AcceptsResumeSource, CannotGoOn, GoesOn}
 use Rattle.job_commands.specs.Resume.{ImageInTurn, JudgesOneScript, JudgesResumeFiles, JudgesResumeInputs, image_third}
-use Rattle.job_commands.specs.Resume.{resumed_setting}
+use Rattle.job_commands.specs.Resume.{HasSealFault, IsSealed, SealRefuses, resumed_setting, seal_cause, seal_of}
 use Rattle.job_commands.specs.Status.{of_script_error}
 use Rattle.job_commands.specs.Turns.{InTurn}
 use Rattle.job_commands.proofs.ThreeFiles.{accepted, refused, one_status, all_pass}
@@ -29,13 +32,29 @@ use Rattle.job_commands.proofs.Turns.{image_decides, one_in_turn, passes, script
 -- The image in its turn
 
 module _ (source : ResumeSource) where
+  not_both : IsSealed source → (fault : HandFault) → HasSealFault source fault → ⊥
+  not_both sealed fault (why, e, is) =
+      let none = (one_seal (seal_of source) source.image.text).1 sealed in
+      let bad : None ≡ Some why = sym none ∙ e in
+      cc
+
+  one_why : (a b : HandFault) → HasSealFault source a → HasSealFault source b → a ≡ b
+  one_why a b (why, e, is) (other, f, at) =
+      let same : Some why ≡ Some other = sym e ∙ f in
+      let cause : why ≡ other = cc in
+      is ∙ ap (λ (w : SealFault). let x : HandFault = record { line = 1; cause = seal_cause w } in x) cause ∙ sym at
+
   one_cause : (a b : HandFault) → CannotGoOn source a → CannotGoOn source b → a ≡ b
-  one_cause a b (e, fault, at) (f, other, there) =
-      one_refused (resumed_setting source) source.image.text source.image.image e f a b fault other at there
+  one_cause a b (inl x) (inl y) = one_why a b x y
+  one_cause a b (inl x) (inr y) = absurd (not_both y.0 a x)
+  one_cause a b (inr x) (inl y) = absurd (not_both x.0 b y)
+  one_cause a b (inr (sealed, e, fault, at)) (inr (too, f, other, there)) =
+      one_refused (resumed_setting source) (unsealed source.image.text) source.image.image e f a b fault other at there
 
   goes_or_not : (a : HandFault) → GoesOn source → CannotGoOn source a → ⊥
-  goes_or_not a goes (e, fault, at) =
-      none_refused (resumed_setting source) source.image.text source.image.image e a goes fault at
+  goes_or_not a goes (inl x) = not_both goes.0 a x
+  goes_or_not a goes (inr (sealed, e, fault, at)) =
+      none_refused (resumed_setting source) (unsealed source.image.text) source.image.image e a goes.1 fault at
 
   module _ (healthy : Type 0) (behind : ResumeSource → Status → Type 0) where
     image_one : ((s r : Status) → IsDecided healthy s → IsDecided healthy r → behind source s → behind source r → s ≡ r)
@@ -98,8 +117,15 @@ module _ (healthy : Type 0) (names : ResumeNames) (shown : Shown) where
     abbrev Judged : Status → Type 0
     Judged s = JudgesResumeInputs healthy names behind s shown
 
-    pub resume_source_refused : (s : Status) → JudgesResumeFiles healthy names (λ source other. ⊥) s shown → Judged s
-    resume_source_refused s h = source_refused (ImageInTurn BehindImage) s h
+    pub resume_source_refused : (s : Status) → JudgesResumeFiles healthy names SealRefuses s shown → Judged s
+    resume_source_refused s (inl h) = inl h
+    resume_source_refused s (inr (conf, box, inl h)) = inr (conf, box, inl h)
+    resume_source_refused s (inr (conf, box, inr (capture, captured, inl h))) =
+        inr (conf, box, inr (capture, captured, inl h))
+    resume_source_refused s (inr (conf, box, inr (capture, captured, inr (image, there, inl q)))) =
+        inr (conf, box, inr (capture, captured, inr (image, there, inl q)))
+    resume_source_refused s (inr (conf, box, inr (capture, captured, inr (image, there, inr (fault, h, q))))) =
+        inr (conf, box, inr (capture, captured, inr (image, there, inr (inl (fault, inl h, q)))))
 
     pub resume_image_refused : (source : ResumeSource) (fault : HandFault) → AcceptsResumeSource names source shown
         → CannotGoOn source fault → Judged (status.BadInput (input.Handover fault))

@@ -2,8 +2,9 @@
 --
 -- The files are judged in the order box, capture, handover, script: the first that is not accepted decides the status,
 -- by its first fault, the limit that it passes, or, in a healthy world, that it is not there. Of a handover its lines
--- are judged, and then, before the script, whether a system of the box can go on from its image.
-use Rattle.std.specs.Prelude.{◌≡◌, ◌⊎◌, ℕ, false, List, [], Result, Ok, Err}
+-- are judged; then, before the script, whether it is one of this box file, whether it is one of the packets of this
+-- capture, and whether a system of the box can go on from its image.
+use Rattle.std.specs.Prelude.{◌≡◌, ◌⊎◌, ℕ, false, List, [], Option, Some, Result, Ok, Err}
 use Rattle.plain_text.specs.declared.fault.LineCause.{LineCause}
 use Rattle.plain_text.specs.declared.fault.LineFault.{LineFault}
 use Rattle.plain_text.specs.declared.limit.Limit.{Limit}
@@ -14,6 +15,11 @@ use Rattle.recovery_world.specs.declared.event.Event.{Event}
 use Rattle.recovery_world.specs.World.{Setting}
 use Rattle.handover_world.specs.declared.fault.ResumeError.{ResumeError}
 use Rattle.handover_world.specs.Faults.{HasNoFault, IsFault}
+use Rattle.handover_seal.specs.declared.seal.Seal.{Seal}
+use Rattle.handover_seal.specs.declared.seal.SealFault.{SealFault}
+use Rattle.handover_seal.specs.declared.seal.SealFault.TheVariants.{OtherBox, OtherCapture}
+use Rattle.handover_seal.specs.Seals.{IsOfSeal, seal_after, seal_fault, unsealed}
+use Rattle.hand_faults.specs.declared.fault.HandCause.{HandCause}
 use Rattle.hand_faults.specs.declared.fault.HandCause.TheVariants as cause
 use Rattle.hand_faults.specs.declared.fault.HandFault.{HandFault}
 use Rattle.hand_faults.specs.HandFaults.{IsRefusedAt}
@@ -41,6 +47,31 @@ pub record AcceptsResumeSource (names : ResumeNames) (source : ResumeSource) (sh
   pub capture_accepted : AcceptsCapture names.capture source.capture shown
   pub handover_accepted : AcceptsImage names.handover source.image shown
 
+-- The seal that the text has to have: that of this box file and the first packets of this capture, as many as the image
+-- says that were fed; none where the box is not sealed.
+abbrev pub seal_of : ResumeSource → Option Seal
+seal_of source =
+    seal_after source.conf.seal source.capture.unit source.capture.packets source.image.image.fed
+
+-- the text is one of this box file and these packets, or neither it nor the box is sealed
+abbrev pub IsSealed : ResumeSource → Type 0
+IsSealed source = IsOfSeal (seal_of source) source.image.text
+
+abbrev pub seal_cause : SealFault → HandCause
+seal_cause OtherBox = cause.Box
+seal_cause OtherCapture = cause.Capture
+
+-- it is not: the fault is at its first line
+abbrev pub HasSealFault : ResumeSource → HandFault → Type 0
+HasSealFault source fault =
+    (why : SealFault) × (seal_fault (seal_of source) source.image.text ≡ Some why)
+    × (fault ≡ record { line = 1; cause = seal_cause why })
+
+-- the files before the script are accepted, and the text is one of them
+pub record AcceptsSealed (names : ResumeNames) (source : ResumeSource) (shown : Shown) : Type 0 where
+  pub source_accepted : AcceptsResumeSource names source shown
+  pub sealed : IsSealed source
+
 -- the run that goes on, of these events
 abbrev pub resumed_run : ResumeSource → List Event → ScriptRun
 resumed_run source events = record {
@@ -56,15 +87,16 @@ resumed_run source events = record {
 abbrev pub resumed_setting : (source : ResumeSource) → Setting (meaning_of source.conf.kind).value
 resumed_setting source = setting_of (meaning_of source.conf.kind).meaning (resumed_run source [])
 
--- a system of the box can go on from the image
+-- the text is one of this box and this capture, and a system of the box can go on from the image
 abbrev pub GoesOn : ResumeSource → Type 0
-GoesOn source = HasNoFault (resumed_setting source) source.image.image
+GoesOn source = IsSealed source × HasNoFault (resumed_setting source) source.image.image
 
--- it can't: the first fault of the image is at this line
+-- it can't: the text is not one of them, or else the first fault of the image is at this line
 abbrev pub CannotGoOn : ResumeSource → HandFault → Type 0
 CannotGoOn source fault =
-    (error : ResumeError) × IsFault (resumed_setting source) source.image.image error
-    × IsRefusedAt source.image.text source.image.image error fault
+    HasSealFault source fault
+    ⊎ (IsSealed source × (error : ResumeError) × IsFault (resumed_setting source) source.image.image error
+    × IsRefusedAt (unsealed source.image.text) source.image.image error fault)
 
 -- the files before the script are accepted, and a system can go on
 pub record AcceptsImageOf (names : ResumeNames) (source : ResumeSource) (shown : Shown) : Type 0 where
@@ -90,6 +122,12 @@ JudgesResumeFiles healthy names behind status shown =
     JudgesFiles healthy names.box_file names.capture (image_third healthy names shown)
     (λ conf capture image. behind (record { conf = conf; capture = capture; image = image })) status shown
 
+-- the text is refused, since it is not one of this box or this capture; or memory ran out
+abbrev pub SealRefuses : ResumeSource → Status → Type 0
+SealRefuses source other =
+    (other ≡ status.NoMemory)
+    ⊎ ((fault : HandFault) × HasSealFault source fault × (other ≡ status.BadInput (input.Handover fault)))
+
 -- The image in its turn: its first fault decides, and where a system can go on, what stands behind it. Memory may run
 -- out.
 abbrev pub ImageInTurn : (ResumeSource → Status → Type 0) → ResumeSource → Status → Type 0
@@ -107,9 +145,14 @@ JudgesResumeInputs healthy names behind status shown =
 
 -- What reading answers: the files are accepted, or the status that ends the command
 
+abbrev pub JudgesSourceFiles : Type 0 → ResumeNames → Result ResumeSource Status → Shown → Type 0
+JudgesSourceFiles healthy names (Ok source) shown = AcceptsResumeSource names source shown
+JudgesSourceFiles healthy names (Err status) shown = JudgesResumeFiles healthy names (λ source other. ⊥) status shown
+
+-- the same with the seal of the text
 abbrev pub JudgesResumeSource : Type 0 → ResumeNames → Result ResumeSource Status → Shown → Type 0
-JudgesResumeSource healthy names (Ok source) shown = AcceptsResumeSource names source shown
-JudgesResumeSource healthy names (Err status) shown = JudgesResumeFiles healthy names (λ source other. ⊥) status shown
+JudgesResumeSource healthy names (Ok source) shown = AcceptsSealed names source shown
+JudgesResumeSource healthy names (Err status) shown = JudgesResumeFiles healthy names SealRefuses status shown
 
 abbrev pub JudgesOneScript : Type 0 → List ℕ → Result (List Event) Status → Shown → Type 0
 JudgesOneScript healthy name (Ok events) shown = AcceptsScript name events shown
@@ -134,7 +177,7 @@ ResumeIsTooLarge names limit shown =
     FirstIsTooLarge names.box_file names.capture (ImageTooLarge names.handover limit shown) limit shown
     ⊎ BehindImage names shown (ScriptTooLarge names.script limit shown)
 
--- the handover has this first fault: one of its lines, or of its image
+-- the handover has this first fault: one of its lines, or its seal's, or of its image
 abbrev pub FaultsHandover : ResumeNames → HandFault → Shown → Type 0
 FaultsHandover names fault shown =
     ((why : LineCause) × (fault.cause ≡ cause.Line why)

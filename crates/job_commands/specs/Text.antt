@@ -60,6 +60,8 @@ move_cause_text move.UnwantedAnswer = codes "unwanted answer"
 
 abbrev pub hand_cause_text : HandCause → List ℕ
 hand_cause_text (hand.Line cause) = cause_text cause
+hand_cause_text hand.Box = codes "another box"
+hand_cause_text hand.Capture = codes "another capture"
 hand_cause_text hand.Count = codes "bad count"
 hand_cause_text (hand.Move cause) = move_cause_text cause
 hand_cause_text hand.Released = codes "bad released"

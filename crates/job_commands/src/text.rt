@@ -149,6 +149,8 @@ fn hand_cause(cause: HandCause) -> &'static str
 {
     match cause {
         HandCause::Line(cause) => line_cause(cause),
+        HandCause::Box => "another box",
+        HandCause::Capture => "another capture",
         HandCause::Count => "bad count",
         HandCause::Move(cause) => move_cause(cause),
         HandCause::Released => "bad released",

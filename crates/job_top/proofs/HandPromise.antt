@@ -1,5 +1,5 @@
 -- A hand-over that is done keeps the promise of the top call.
-use Rattle.std.proofs.Common.{◌<◌, ◌^◌, ℕ, List, ◌∷◌, ◌++◌, sym, ap, ◌∙◌, subst, Some}
+use Rattle.std.proofs.Common.{◌<◌, ◌^◌, ℕ, List, ◌∷◌, ◌++◌, sym, ap, ◌∙◌, subst, Option, Some}
 use Rattle.std.proofs.lemmas.List.Elements.{All-head, All-tail}
 use Rattle.plain_text.specs.declared.packet.Packet.{Packet}
 use Rattle.pcap_io.specs.Capture.{written}
@@ -10,7 +10,6 @@ use Rattle.recovery_world.specs.Files.{Performs}
 use Rattle.recovery_laws.proofs.KeptWorlds.{opening_sound, performs_sound}
 use Rattle.handover.specs.declared.line.ImageLine.TheVariants.{Heading}
 use Rattle.handover.specs.Images.{FitsLine, counts_of, lists_of}
-use Rattle.handover.proofs.ReadBack.{read_back}
 use Rattle.handover_world.specs.Faults.{HasNoFault}
 use Rattle.handover_world.proofs.Counting.{performed_counted}
 use Rattle.handover_world.proofs.HandedImages.{handed_fine}
@@ -23,6 +22,7 @@ use Rattle.job_commands.specs.HandWords.{HandNames}
 use Rattle.job_commands.specs.Run.{setting_for}
 use Rattle.job_top.specs.Hand.{HandsWhole, hand_outputs}
 use Rattle.job_top.specs.Headline.{KeepsHandPromise, KeepsHanded}
+use Rattle.job_top.proofs.SealedImages.{is_of_seal, is_read}
 
 module _ {V : Type 0} (s : Setting V) (events : List Event) (h : HandsOver s events) where
   first : Performs s (opening V) events (lines_in h.replies) h.ready
@@ -49,9 +49,9 @@ module _ {V : Type 0} (s : Setting V) (events : List Event) (h : HandsOver s eve
       (rest_of_script s h.ready h.world (lines_in h.last) last) h.handed.image_is
       (subst (λ (n : ℕ). n < 2 ^ 32) h.handed.image_is.epoch counts.3)
 
-pub hand_keeps : {V : Type 0} (s : Setting V) (names : OutputNames) (events : List Event) (old new : Shown)
-    → HasHanded s names events old new → KeepsHanded s names events new
-hand_keeps s names events old new r =
+pub hand_keeps : {V : Type 0} (seal : Option (List ℕ)) (s : Setting V) (names : OutputNames) (events : List Event)
+    (old new : Shown) → HasHanded seal s names events old new → KeepsHanded seal s names events new
+hand_keeps seal s names events old new r =
     let h = r.hand in
     record {
       world = h.world;
@@ -59,7 +59,8 @@ hand_keeps s names events old new r =
       performs = answers_perform s (events ++ resting) (h.replies ++ h.last) h.world (all s events h);
       image = h.image;
       handed = h.handed;
-      is_image = read_back h.image h.fits_image;
+      is_image = is_read s h.image seal h.fits_image;
+      is_sealed = is_of_seal s h.image seal;
       no_fault = fine s events h;
       handover_written = r.files.schedule_is;
       released_written =
@@ -72,5 +73,5 @@ pub hand_promise : (names : HandNames) (a c : Shown) → HandsWhole names a c �
 hand_promise names a c (inputs, accepted, r) = record {
   inputs = inputs;
   accepted = accepted;
-  keeps = hand_keeps (setting_for inputs) (hand_outputs names) inputs.events a c r;
+  keeps = hand_keeps inputs.conf.seal (setting_for inputs) (hand_outputs names) inputs.events a c r;
 }

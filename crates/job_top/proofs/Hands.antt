@@ -1,20 +1,19 @@
 -- What the status of `hand` says, and what it leaves: from before its inputs were read.
-use Rattle.std.proofs.Common.{◌≡◌, ◌⊎◌, List, ◌∷◌, ◌++◌, refl, ap, ◌∙◌, subst, inl, inr, Result, Ok, Err}
-use Rattle.std.proofs.Common.{append_assoc}
+use Rattle.std.proofs.Common.{◌≡◌, ◌⊎◌, ℕ, List, ◌∷◌, ◌++◌, refl, ap, ◌∙◌, subst, inl, inr, Result, Ok, Err}
+use Rattle.std.proofs.Common.{append_assoc, Option}
 use Rattle.std.specs.Prelude.{⊤, IsErrOf, OnOk}
 use Rattle.plain_text.specs.declared.limit.Limit.{Limit}
 use Rattle.world_io.specs.World.{Shown}
 use Rattle.recovery_world.specs.declared.event.Event.{Event}
 use Rattle.recovery_world.specs.World.{Setting}
 use Rattle.recovery_world.specs.Files.{done_line}
-use Rattle.handover.specs.Images.{image_text}
 use Rattle.handover_world.specs.declared.unready.Unready.{Unready}
 use Rattle.run_writes.specs.Replies.{lines_in, released_in}
 use Rattle.run_writes.specs.Run.{HasStopped, OutputNames}
 use Rattle.run_writes.proofs.ScriptAnswers.{answers_perform}
 use Rattle.hand_command.specs.declared.error.HandError.{HandError}
 use Rattle.hand_command.specs.declared.error.HandError.TheVariants as hand_error
-use Rattle.hand_command.specs.Hand.{HasBegunHand, HasHanded, IsNotReady, resting}
+use Rattle.hand_command.specs.Hand.{HasBegunHand, HasHanded, IsNotReady, handed_text, resting}
 use Rattle.input_files.specs.Files.{KeepsOutputs}
 use Rattle.live_writes.proofs.ScriptSteps.{spare_cut, spared}
 use Rattle.job_commands.specs.declared.inputs.Inputs.{Inputs}
@@ -34,15 +33,15 @@ use Rattle.job_top.specs.Hand.{HandsWhole, JudgesHand, KeepsHandNames, StopsHand
 use Rattle.job_top.proofs.SparedNames.{spare_hand}
 
 -- The files are as they were when the inputs had been read.
-module _ (a b c : Shown) (keeps : KeepsOutputs a b) {V : Type 0} (s : Setting V) (names : OutputNames)
-    (events : List Event) where
-  pub handed_since : (r : Result ⊤ HandError) → OnOk r (HasHanded s names events b c)
-      → OnOk r (HasHanded s names events a c)
+module _ (a b c : Shown) (keeps : KeepsOutputs a b) {V : Type 0} (seal : Option (List ℕ)) (s : Setting V)
+    (names : OutputNames) (events : List Event) where
+  pub handed_since : (r : Result ⊤ HandError) → OnOk r (HasHanded seal s names events b c)
+      → OnOk r (HasHanded seal s names events a c)
   handed_since (Ok done) r = record {
     hand = r.hand;
     files =
         files_since a b c keeps names s.fractions (released_in (r.hand.replies ++ r.hand.last))
-        (image_text r.hand.image) (lines_in (r.hand.replies ++ r.hand.last) ++ done_line r.hand.world) r.files;
+        (handed_text seal s r.hand.image) (lines_in (r.hand.replies ++ r.hand.last) ++ done_line r.hand.world) r.files;
   }
   handed_since (Err e) r = tt
 
@@ -57,7 +56,7 @@ module _ (a b c : Shown) (keeps : KeepsOutputs a b) {V : Type 0} (s : Setting V)
     files = files_since a b c keeps names s.fractions (released_in r.replies) _ (lines_in r.replies) r.files;
   }
 
-  pub order_handed : HasBegunHand s names events b c → HasBegunHand s names events a c
+  pub order_handed : HasBegunHand seal s names events b c → HasBegunHand seal s names events a c
   order_handed (writes, is, begun) = (writes, is, begun_writes_since a b c keeps writes begun)
 
 -- The status of the hand-over, where its inputs are accepted.
@@ -65,7 +64,7 @@ module _ (a b c : Shown) (keeps : KeepsOutputs a b) {V : Type 0} (s : Setting V)
 module _ (healthy : Type 0) (names : HandNames) (inputs : Inputs) (a c : Shown)
     (accepted : AcceptsHandInputs names inputs a) where
   abbrev Leaves : Result ⊤ HandError → Type 0
-  Leaves r = OnOk r (HasHanded (setting_for inputs) (hand_outputs names) inputs.events a c)
+  Leaves r = OnOk r (HasHanded inputs.conf.seal (setting_for inputs) (hand_outputs names) inputs.events a c)
 
   abbrev StaysUnready : Result ⊤ HandError → Type 0
   StaysUnready r =
@@ -247,4 +246,5 @@ hand_others names a b (inl kept) name one two = ap (λ f. f name) kept.names
 hand_others names a b (inr (inputs, accepted, (writes, is, begun))) name one two =
     begun.written.names name
     ∙ spared name begun.done (a.names name) (spare_cut name begun.done writes
-    (spare_hand (hand_outputs names) name one two (setting_for inputs) inputs.events writes is) begun.cut)
+    (spare_hand (hand_outputs names) name one two inputs.conf.seal (setting_for inputs) inputs.events writes is)
+    begun.cut)

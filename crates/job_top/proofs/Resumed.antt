@@ -8,7 +8,7 @@ use Rattle.recovery_world.specs.declared.event.Event.{Event}
 use Rattle.recovery_world.specs.World.{Setting, World as SystemWorld}
 use Rattle.handover.specs.declared.image.Image.{Image}
 use Rattle.handover_world.specs.declared.fault.ResumeError.{ResumeError}
-use Rattle.handover_world.specs.Faults.{IsFault}
+use Rattle.handover_world.specs.Faults.{HasNoFault, IsFault}
 use Rattle.run_writes.specs.declared.error.RunError.{RunError}
 use Rattle.run_writes.specs.declared.error.RunError.TheVariants as run_error
 use Rattle.run_writes.specs.Replies.{at_world, lines_in}
@@ -29,7 +29,7 @@ use Rattle.job_commands.specs.declared.status.InputFault.TheVariants.{Handover}
 use Rattle.job_commands.specs.declared.status.Status.{Status}
 use Rattle.job_commands.specs.declared.status.Status.TheVariants as status
 use Rattle.job_commands.specs.HandWords.{ResumeNames}
-use Rattle.job_commands.specs.Resume.{AcceptsResumeInputs, AcceptsResumeSource, GoesOn}
+use Rattle.job_commands.specs.Resume.{AcceptsResumeInputs, AcceptsSealed}
 use Rattle.job_commands.specs.Resume.{JudgesOneScript, JudgesResumeSource}
 use Rattle.job_commands.specs.Resume.{resumed_setting}
 use Rattle.job_commands.specs.Status.{AtInputs, AtOutputs, Completes, EndsReading, run_outcome, stage_of}
@@ -145,7 +145,7 @@ module _ {V : Type 0} (s : Setting V) (w : SystemWorld V) (names : OutputNames) 
 -- The status of the run, where the first inputs are accepted.
 
 module _ (healthy : Type 0) (names : ResumeNames) (source : ResumeSource) (a c : Shown)
-    (taken : AcceptsResumeSource names source a)
+    (taken : AcceptsSealed names source a)
     (apart : names.released ≡ names.schedule → ⊥) where
   abbrev World : Type 0
   World = SystemWorld (meaning_of source.conf.kind).value
@@ -157,10 +157,10 @@ module _ (healthy : Type 0) (names : ResumeNames) (source : ResumeSource) (a c :
   TheImage = source.image.image
 
   -- all inputs are accepted
-  all_accepted : GoesOn source → (events : List Event) → AcceptsScript names.script events a
+  all_accepted : HasNoFault OneSetting TheImage → (events : List Event) → AcceptsScript names.script events a
       → AcceptsResumeInputs names source events a
   all_accepted fine events script = record {
-    image_accepted = record { source_accepted = taken; goes_on = fine };
+    image_accepted = record { source_accepted = taken.source_accepted; goes_on = (taken.sealed, fine) };
     script_accepted = script;
   }
 
@@ -224,13 +224,14 @@ module _ (healthy : Type 0) (names : ResumeNames) (source : ResumeSource) (a c :
       → JudgesResume healthy names st a
   resume_judged st (HasNoMemory is kept) =
       subst (λ (x : Status). JudgesResume healthy names x a) (sym is)
-      (resume_no_memory healthy names a (SaysOfResume healthy) source taken)
+      (resume_no_memory healthy names a (SaysOfResume healthy) source taken.source_accepted)
   resume_judged st (HasFault error is fault at status_is kept) =
       subst (λ (x : Status). JudgesResume healthy names x a) (sym status_is)
-      (resume_image_refused healthy names a (SaysOfResume healthy) source fault taken (error, is, at))
+      (resume_image_refused healthy names a (SaysOfResume healthy) source fault taken.source_accepted
+      (inr (taken.sealed, error, is, at)))
   resume_judged st (resume.GoesOn fine w handed (IsRefused judged stage quiet kept)) =
       resume_script_refused healthy names a (SaysOfResume healthy) source st
-      (record { source_accepted = taken; goes_on = fine }) judged
+      (record { source_accepted = taken.source_accepted; goes_on = (taken.sealed, fine) }) judged
   resume_judged st (resume.GoesOn fine w handed (Runs events script r is never runs)) =
       resume_accepted healthy names a (SaysOfResume healthy) source events st (all_accepted fine events script)
       (subst (λ (x : Status). SaysOfResume healthy source events x) (sym is) (says events w handed r never runs))

@@ -1,5 +1,5 @@
 -- The names that a run spares which goes on from a point, or whose system is handed over.
-use Rattle.std.proofs.Common.{◌≡◌, ℕ, List, [], ◌∷◌, ◌++◌, sym, subst, inl, inr}
+use Rattle.std.proofs.Common.{◌≡◌, ℕ, List, [], ◌∷◌, ◌++◌, Option, sym, subst, inl, inr}
 use Rattle.plain_text.specs.declared.packet.Unit.{Unit as FractionUnit}
 use Rattle.recovery_world.specs.declared.event.Event.{Event}
 use Rattle.recovery_world.specs.World.{Setting}
@@ -32,15 +32,15 @@ module _ (names : OutputNames) (name : List ℕ) (one : ¬ (name ≡ names.relea
       (spare_both name (writes_of names s.fractions (from.replies ++ all.replies)) _
       (spare_some s.fractions (from.replies ++ all.replies)) ((λ e. two (sym e)), tt))
 
-  pub spare_hand : {V : Type 0} (s : Setting V) (events : List Event) (writes : List Write)
-      → IsWrittenHand s names events writes → SpareName name writes
-  spare_hand s events writes (inl some) =
+  pub spare_hand : {V : Type 0} (seal : Option (List ℕ)) (s : Setting V) (events : List Event) (writes : List Write)
+      → IsWrittenHand seal s names events writes → SpareName name writes
+  spare_hand seal s events writes (inl some) =
       subst (SpareName name) (sym some.writes_are) (spare_some s.fractions some.replies)
-  spare_hand s events writes (inr (inl (limit, until))) =
+  spare_hand seal s events writes (inr (inl (limit, until))) =
       subst (SpareName name) (sym until.writes_are)
       (spare_both name (writes_of names s.fractions until.replies) _ (spare_some s.fractions until.replies)
       ((λ e. one (sym e)), tt))
-  spare_hand s events writes (inr (inr handover)) =
+  spare_hand seal s events writes (inr (inr handover)) =
       subst (SpareName name) (sym handover.writes_are)
       (spare_both name (writes_of names s.fractions (handover.hand.replies ++ handover.hand.last)) _
       (spare_some s.fractions (handover.hand.replies ++ handover.hand.last)) ((λ e. two (sym e)), tt))

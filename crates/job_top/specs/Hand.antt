@@ -86,7 +86,7 @@ abbrev pub HandsWhole : HandNames → Shown → Shown → Type 0
 HandsWhole names old new =
     (inputs : Inputs)
     × AcceptsHandInputs names inputs old
-    × HasHanded (setting_for inputs) (hand_outputs names) inputs.events old new
+    × HasHanded inputs.conf.seal (setting_for inputs) (hand_outputs names) inputs.events old new
 
 -- the events were performed, and the system is not ready for this cause: there is no text of a handover
 abbrev pub HandsUnready : HandNames → Unready → Shown → Shown → Type 0
@@ -108,7 +108,7 @@ HandsInOrder names old new =
     KeepsShown old new
     ⊎ ((inputs : Inputs)
     × AcceptsHandInputs names inputs old
-    × HasBegunHand (setting_for inputs) (hand_outputs names) inputs.events old new)
+    × HasBegunHand inputs.conf.seal (setting_for inputs) (hand_outputs names) inputs.events old new)
 
 -- names that are no output of the command are as they were
 abbrev pub KeepsHandNames : HandNames → Shown → Shown → Type 0

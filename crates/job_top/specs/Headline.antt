@@ -1,5 +1,5 @@
 -- What a run that is done promises, of the files that it leaves.
-use Rattle.std.specs.Prelude.{◌≡◌, ℕ, List, ◌++◌, Some, Ok, length}
+use Rattle.std.specs.Prelude.{◌≡◌, ℕ, List, ◌++◌, Option, Some, Ok, length}
 use Rattle.pcap_io.specs.Capture.{written}
 use Rattle.entry_order.specs.Log.{Entry}
 use Rattle.entry_order.specs.Closed.{IsFirstMissing}
@@ -12,9 +12,10 @@ use Rattle.recovery_world.specs.declared.event.Event.{Event}
 use Rattle.recovery_world.specs.World.{Setting, Sent, World as SystemWorld, opening, all_inputs}
 use Rattle.plain_text.specs.declared.packet.Packet.{Packet}
 use Rattle.handover.specs.declared.image.Image.{Image}
-use Rattle.handover.specs.Images.{IsImage, image_text}
+use Rattle.handover.specs.Images.{IsImage}
+use Rattle.handover_seal.specs.Seals.{IsOfSeal, seal_after, unsealed}
 use Rattle.handover_world.specs.Faults.{HasNoFault}
-use Rattle.hand_command.specs.Hand.{IsHandedOver, resting}
+use Rattle.hand_command.specs.Hand.{IsHandedOver, handed_text, resting}
 use Rattle.recovery_world.specs.Events.{IsAmong}
 use Rattle.recovery_world.specs.Files.{Performs, packets_of}
 use Rattle.recovery_laws.specs.Ends.{Ends}
@@ -98,25 +99,27 @@ pub record KeepsChainPromise (names : ChainNames) (old new : Shown) : Type 0 whe
   pub keeps : KeepsBothPromises (first_of inputs) (second_of inputs) (chain_outputs names) inputs.events new
 
 -- The events and four more lead to a world with nothing on the way. What it released is written, and the text of its
--- image, which has no fault: a new system can go on from there.
-pub record KeepsHanded {V : Type 0} (s : Setting V) (names : OutputNames) (events : List Event)
+-- image, with the seal of the box and of the packets that were fed where the box is sealed. The image has no fault: a
+-- new system can go on from there.
+pub record KeepsHanded {V : Type 0} (seal : Option (List ℕ)) (s : Setting V) (names : OutputNames) (events : List Event)
     (new : Shown) : Type 0 where
   pub world : SystemWorld V
   pub lines : List ℕ
   pub performs : Performs s (opening V) (events ++ resting) lines world
   pub image : Image
   pub handed : IsHandedOver s world image
-  pub is_image : IsImage (image_text image) image
+  pub is_image : IsImage (unsealed (handed_text seal s image)) image
+  pub is_sealed : IsOfSeal (seal_after seal s.fractions s.packets image.fed) (handed_text seal s image)
   pub no_fault : HasNoFault s image
   -- the written files: the text of the handover stands where a run has its schedule
-  pub handover_written : new.names names.schedule ≡ Some (image_text image)
+  pub handover_written : new.names names.schedule ≡ Some (handed_text seal s image)
   pub released_written : new.names names.released ≡ Some (written s.fractions (packets_of world.released))
 
 -- the promise of `hand`, for the events of its script
 pub record KeepsHandPromise (names : HandNames) (old new : Shown) : Type 0 where
   pub inputs : Inputs
   pub accepted : AcceptsHandInputs names inputs old
-  pub keeps : KeepsHanded (setting_for inputs) (hand_outputs names) inputs.events new
+  pub keeps : KeepsHanded inputs.conf.seal (setting_for inputs) (hand_outputs names) inputs.events new
 
 -- The promise of a run that goes on from this world: as that of a run, and the written packets are those that are
 -- released behind what was released before. The schedule is that of the whole run, from its first move.

@@ -13,6 +13,7 @@ use Rattle.recovery_world.specs.Finish.{IsFinish}
 use Rattle.recovery_world.specs.Many.{Stops}
 use Rattle.handover.specs.declared.image.Image.{Image}
 use Rattle.handover.specs.Images.{IsImage}
+use Rattle.handover_seal.specs.Seals.{unsealed}
 use Rattle.handover_world.specs.declared.fault.ResumeError.{ResumeError}
 use Rattle.handover_world.specs.declared.fault.ResumeError.TheVariants as resume_error
 use Rattle.handover_world.specs.Faults.{HasNoFault, IsFault}
@@ -135,7 +136,7 @@ pub record CanResume (from : Resumption) : Type 0 where
   pub some_threads : 1 ≤ from.threads
   pub few_threads : from.threads ≤ 16
   pub short : All IsShort from.packets
-  pub is_image : IsImage from.image.text from.image.image
+  pub is_image : IsImage (unsealed from.image.text) from.image.image
 
 -- what the inputs go on from
 abbrev pub resumption_of : ResumeSource → Resumption
@@ -163,7 +164,7 @@ setting_from m from = record {
 abbrev pub IsRefusedSo : ImageFile → ResumeError → Status → Type 0
 IsRefusedSo file error answer =
     ((error ≡ resume_error.NoMemory) × (answer ≡ status.NoMemory))
-    ⊎ ((fault : HandFault) × IsRefusedAt file.text file.image error fault
+    ⊎ ((fault : HandFault) × IsRefusedAt (unsealed file.text) file.image error fault
     × (answer ≡ status.BadInput (Handover fault)))
 
 -- What going on by a script came to: the script is refused, and nothing is written; or its events were run.
@@ -183,7 +184,7 @@ pub data GoesOnFrom {V : Type 0} (healthy : Type 0) (s : Setting V) (file : Imag
     (answer : Status) (old new : Shown) : Type 0 where
   HasNoMemory : answer ≡ status.NoMemory → KeepsShown old new → GoesOnFrom healthy s file names answer old new
   HasFault : (error : ResumeError) → IsFault s file.image error → (fault : HandFault)
-      → IsRefusedAt file.text file.image error fault → answer ≡ status.BadInput (Handover fault)
+      → IsRefusedAt (unsealed file.text) file.image error fault → answer ≡ status.BadInput (Handover fault)
       → KeepsShown old new → GoesOnFrom healthy s file names answer old new
   GoesOn : HasNoFault s file.image → (w : SystemWorld V) → IsHandedOver s w file.image
       → GoesOnBy healthy s file.image names answer old new → GoesOnFrom healthy s file names answer old new

@@ -47,8 +47,8 @@ fn hand_box<W: World>(
     requires room { (W.ledger world.old).given < 2 ^ 32 - 2 }
     requires apart { names.released.now ≡ names.handover.now → ⊥ }
     ensures whole { (p : Start) → W.honest p world.new → OnOk result (HasHanded
-        (setting_for inputs) (hand_outputs (hand_names_of names.entry)) inputs.events
-        (W.shows p world.old) (W.shows p world.new)) }
+        inputs.conf.seal (setting_for inputs) (hand_outputs (hand_names_of names.entry))
+        inputs.events (W.shows p world.old) (W.shows p world.new)) }
     ensures unready { (p : Start) → W.honest p world.new → (unready : UnreadyKind)
         → result ≡ Err (HandError.Unready unready) → IsNotReady
         (setting_for inputs) (hand_outputs (hand_names_of names.entry)) inputs.events
@@ -58,8 +58,8 @@ fn hand_box<W: World>(
         (setting_for inputs) (hand_outputs (hand_names_of names.entry)) (inputs.events ++ resting)
         limit (W.shows p world.old) (W.shows p world.new) }
     ensures in_order { (p : Start) → W.honest p world.new → HasBegunHand
-        (setting_for inputs) (hand_outputs (hand_names_of names.entry)) inputs.events
-        (W.shows p world.old) (W.shows p world.new) }
+        inputs.conf.seal (setting_for inputs) (hand_outputs (hand_names_of names.entry))
+        inputs.events (W.shows p world.old) (W.shows p world.new) }
     ensures writes_files { WritesFiles W.ledger W.healthy 2 world.old world.new }
     ensures cause { IsErrOf result HandError.WriteFault
         → WritingFailed W.ledger W.healthy world.old world.new }
@@ -69,6 +69,7 @@ fn hand_box<W: World>(
         released: names.released,
         handover: names.handover,
     };
+    let seal = inputs.conf.seal;
     let run = ScriptRun {
         threads: inputs.conf.threads,
         tags: inputs.conf.tags,
@@ -78,10 +79,10 @@ fn hand_box<W: World>(
         events: inputs.events,
     };
     match inputs.conf.kind {
-        BoxKind::Count(count) => run_hand(alloc, world, files, run, count),
-        BoxKind::Monitor(monitor) => run_hand(alloc, world, files, run, monitor),
-        BoxKind::Nat(nat) => run_hand(alloc, world, files, run, nat),
-        BoxKind::Balancer(balancer) => run_hand(alloc, world, files, run, balancer),
+        BoxKind::Count(count) => run_hand(alloc, world, files, seal, run, count),
+        BoxKind::Monitor(monitor) => run_hand(alloc, world, files, seal, run, monitor),
+        BoxKind::Nat(nat) => run_hand(alloc, world, files, seal, run, nat),
+        BoxKind::Balancer(balancer) => run_hand(alloc, world, files, seal, run, balancer),
     }
 }
 

@@ -5,6 +5,7 @@ ghost use Rattle.world_io.specs.World.{Start, KeepsOrder, WritingFailed};
 ghost use Rattle.recovery_world.specs.World.{Setting, World as SystemWorld};
 ghost use Rattle.handover.specs.Images.{IsImage};
 ghost use Rattle.handover.specs.declared.image.Image.{Image};
+ghost use Rattle.handover_seal.specs.Seals.{unsealed};
 ghost use Rattle.handover_world.specs.Faults.{IsFault};
 ghost use Rattle.input_files.specs.Files.{OpensAll, OpensFirst};
 ghost use Rattle.run_writes.specs.Run.{KeepsShown};
@@ -23,6 +24,7 @@ use box_conf::BoxKind;
 use box_program::Program;
 use hand_command::run_from;
 use hand_faults::hand_fault;
+use handover_seal::unsealed;
 use handover_world::{ResumeError, images_stand_for_worlds};
 use input_files::ImageFile;
 use job_commands::{
@@ -53,14 +55,14 @@ pub(crate) struct Resumption {
 
 /// The status of an image that is refused with this error.
 fn refuse_image<X>(file: &ImageFile, error: ResumeError) -> Status
-    requires image { IsImage file.now.text file.now.image }
+    requires image { IsImage (unsealed file.now.text) file.now.image }
     requires fault { (s : Setting X) × IsFault s file.now.image error }
     ensures { IsRefusedSo file.now error result }
 {
     match error {
         ResumeError::NoMemory => Status::NoMemory,
         ResumeError::Count(_) | ResumeError::Move(_) | ResumeError::Released(_) => {
-            let fault = hand_fault::<X>(file.text.as_slice(), &file.image, error);
+            let fault = hand_fault::<X>(unsealed(file.text.as_slice()), &file.image, error);
             Status::BadInput(InputFault::Handover(fault))
         }
     }
@@ -206,7 +208,8 @@ fn resume_kinds<W: World>(
     }
 }
 
-/// The command `resume`: all inputs are judged before an output is created, the image before the script is read.
+/// The command `resume`: all inputs are judged before an output is created, the seal of the handover and its image
+/// before the script is read.
 pub(crate) fn resume<W: World>(alloc: Global, world: &mut W, names: ResumeWords<'_>) -> Status
     requires room { (W.ledger world.old).given < 2 ^ 31 }
     requires apart { names.released.now ≡ names.schedule.now → ⊥ }

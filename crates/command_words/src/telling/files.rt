@@ -16,6 +16,17 @@ pub fn read_again<R: AllocGlobal + Files>(rt: &R, name: &Text) -> Option<Vec<u8>
     fs::read(rt, path).ok()
 }
 
+/// Warns of a handover without a seal.
+pub fn warn_unsealed<R: AllocGlobal + Files + Eprint>(rt: &R, name: &Text) -> io::Result<()> {
+    match read_again(rt, name) {
+        Some(text) if !text.starts_with(b"handover 2 ") => {
+            let name = name.as_str();
+            eprintln!(rt; "{name}: warning: no seal says that it is of this box and this capture")
+        }
+        _ => Ok(()),
+    }
+}
+
 /// What the system says where a file, which is no stream, is opened to be read.
 pub fn reading_error<R: Files>(rt: &R, name: &str) -> Option<io::Error> {
     fs::open(rt, name).err()

@@ -7,11 +7,11 @@ use std::{io, str};
 const SHOWN: usize = 60;
 
 /// The words that some line of a text file has, besides numbers.
-const KNOWN: [&str; 45] = [
+const KNOWN: [&str; 46] = [
     "=", "auto", "backend", "balancer", "box", "closing", "count", "crash", "cut", "ended",
     "errors", "feed", "flow", "handover", "icmp", "inside", "late", "limit", "log", "lose",
-    "monitor", "move", "nat", "out", "outside", "ports", "recover", "released", "round", "seed",
-    "settle", "shards", "show", "snap", "state", "static", "step", "store", "take", "tcp",
+    "monitor", "move", "nat", "out", "outside", "ports", "recover", "released", "round", "seal",
+    "seed", "settle", "shards", "show", "snap", "state", "static", "step", "store", "take", "tcp",
     "threads", "time", "udp", "virtual", "vlan",
 ];
 

@@ -19,10 +19,10 @@ returns-in_err-outputs-clause-cause g c fault =
     c.write_events.ensures.cause (fault_made _ _ c.in_err-outputs.field-0.0 made was fault)
 
 pub returns-in_err-outputs-clause-shows : goal.returns-in_err-outputs-clause-shows
-returns-in_err-outputs-clause-shows g c p h s unit at =
+returns-in_err-outputs-clause-shows g c p h s seal are unit at =
     let made : c.from_residual.result ≡ Err (hand_error_of c.in_err-outputs.field-0.0) = search rules in
-    hand_failed OutputFiles _ c.in_err-outputs.field-0.0 _ s (hand.names_of c.args.files) c.args.events.now _ _ _ _ made
-    (c.in_err-outputs.ensures.shows p h s _ unit at)
+    hand_failed seal OutputFiles _ c.in_err-outputs.field-0.0 _ s (hand.names_of c.args.files) c.args.events.now _ _ _ _
+    made (c.in_err-outputs.ensures.shows p h s _ unit at)
 
 pub returns-clause-writes_files : goal.returns-clause-writes_files
 returns-clause-writes_files g c =
@@ -34,10 +34,10 @@ returns-clause-cause g c fault =
     WritesFiles-failed _ _ 2 _ _ _ c.in_ok-outputs.ensures.writes_files (c.end_hand.ensures.cause fault)
 
 pub returns-clause-shows : goal.returns-clause-shows
-returns-clause-shows g c p h s unit at =
+returns-clause-shows g c p h s seal are unit at =
     let h0 = c.end_hand.ensures.before p h in
     let names = hand.names_of c.args.files in
-    c.end_hand.ensures.shows p h s names c.args.events.now _ (c.in_ok-outputs.ensures.released p h0)
+    c.end_hand.ensures.shows p h s seal are names c.args.events.now _ (c.in_ok-outputs.ensures.released p h0)
     (c.in_ok-outputs.ensures.schedule p h0)
     (come_same _ _ s _ names c.args.events.now _ _ _ _
     (ap g.P.Program.meaning (sym c.in_ok-outputs.ensures.program)) (c.in_ok-outputs.ensures.shows p h0 s _ unit at))

@@ -1,4 +1,6 @@
-use Rattle.std.proofs.Common.{ap, sym, refl}
+use Rattle.std.proofs.Common.{List, ap, sym, subst, refl}
+use Rattle.plain_text.specs.declared.packet.Packet.{Packet}
+use Rattle.handover_seal.specs.Seals.{AreSeals}
 use Rattle.output_files.proofs.Effects.{begun_none}
 use Rattle.run_writes.specs.Run.{setting_of}
 use Rattle.run_command.proofs.Going.{at_same, somewhere_same}
@@ -17,38 +19,53 @@ hand_over-ended-requires-clause-somewhere g c κs within =
     )
 
 pub returns-in_err-system-clause-in_order : goal.returns-in_err-system-clause-in_order
-returns-in_err-system-clause-in_order g c p h = hand_nothing _ _ _ _ _ (begun_none _ _)
+returns-in_err-system-clause-in_order g c p h = hand_nothing _ _ _ _ _ _ (begun_none _ _)
 
 pub returns-clause-whole : goal.returns-clause-whole
 returns-clause-whole g c p h =
     let s = setting_of (g.P.Program.meaning c.args.program) c.args.run in
+    let are = subst (λ (ps : List Packet). AreSeals c.args.seal c.args.run.unit ps c.in_ok-seals.seals) c.as_slice.ensures
+    c.in_ok-seals.ensures in
     let at = at_same _ _ s _ c.in_ok-system.system (ap g.P.Program.meaning (sym c.in_ok-system.ensures.program))
     (opens_at _ s c.in_ok-system.system c.in_ok-system.ensures.stands c.in_ok-system.ensures.none) in
-    hand_whole s (names_of c.args.files) c.args.run.events _ _ c.requires.apart c.hand_over-ended.result
-    (hand_same _ s _ _ c.args.run.events _ _ c.as_slice-events.ensures (c.hand_over-ended.ensures.shows p h s refl at))
+    hand_whole c.args.seal s (names_of c.args.files) c.args.run.events _ _ c.requires.apart c.hand_over-ended.result
+    (hand_same c.args.seal _ s _ _ c.args.run.events _ _ c.as_slice-events.ensures
+    (c.hand_over-ended.ensures.shows p h s c.args.seal are refl at))
 
 pub returns-clause-unready : goal.returns-clause-unready
 returns-clause-unready g c p h unready is =
     let s = setting_of (g.P.Program.meaning c.args.program) c.args.run in
+    let are = subst (λ (ps : List Packet). AreSeals c.args.seal c.args.run.unit ps c.in_ok-seals.seals) c.as_slice.ensures
+    c.in_ok-seals.ensures in
     let at = at_same _ _ s _ c.in_ok-system.system (ap g.P.Program.meaning (sym c.in_ok-system.ensures.program))
     (opens_at _ s c.in_ok-system.system c.in_ok-system.ensures.stands c.in_ok-system.ensures.none) in
-    hand_unready s (names_of c.args.files) c.args.run.events _ _ c.requires.apart c.hand_over-ended.result unready
-    (hand_same _ s _ _ c.args.run.events _ _ c.as_slice-events.ensures (c.hand_over-ended.ensures.shows p h s refl at))
-    is
+    hand_unready c.args.seal s (names_of c.args.files) c.args.run.events _ _ c.requires.apart c.hand_over-ended.result
+    unready
+    (hand_same c.args.seal _ s _ _ c.args.run.events _ _ c.as_slice-events.ensures
+    (c.hand_over-ended.ensures.shows p h s c.args.seal are refl at)) is
 
 pub returns-clause-limit : goal.returns-clause-limit
 returns-clause-limit g c p h limit is =
     let s = setting_of (g.P.Program.meaning c.args.program) c.args.run in
+    let are = subst (λ (ps : List Packet). AreSeals c.args.seal c.args.run.unit ps c.in_ok-seals.seals) c.as_slice.ensures
+    c.in_ok-seals.ensures in
     let at = at_same _ _ s _ c.in_ok-system.system (ap g.P.Program.meaning (sym c.in_ok-system.ensures.program))
     (opens_at _ s c.in_ok-system.system c.in_ok-system.ensures.stands c.in_ok-system.ensures.none) in
-    hand_limit s (names_of c.args.files) c.args.run.events _ _ c.requires.apart c.hand_over-ended.result limit
-    (hand_same _ s _ _ c.args.run.events _ _ c.as_slice-events.ensures (c.hand_over-ended.ensures.shows p h s refl at))
-    is
+    hand_limit c.args.seal s (names_of c.args.files) c.args.run.events _ _ c.requires.apart c.hand_over-ended.result
+    limit
+    (hand_same c.args.seal _ s _ _ c.args.run.events _ _ c.as_slice-events.ensures
+    (c.hand_over-ended.ensures.shows p h s c.args.seal are refl at)) is
 
 pub returns-clause-in_order : goal.returns-clause-in_order
 returns-clause-in_order g c p h =
     let s = setting_of (g.P.Program.meaning c.args.program) c.args.run in
+    let are = subst (λ (ps : List Packet). AreSeals c.args.seal c.args.run.unit ps c.in_ok-seals.seals) c.as_slice.ensures
+    c.in_ok-seals.ensures in
     let at = at_same _ _ s _ c.in_ok-system.system (ap g.P.Program.meaning (sym c.in_ok-system.ensures.program))
     (opens_at _ s c.in_ok-system.system c.in_ok-system.ensures.stands c.in_ok-system.ensures.none) in
-    hand_begun s (names_of c.args.files) c.args.run.events _ _ c.hand_over-ended.result
-    (hand_same _ s _ _ c.args.run.events _ _ c.as_slice-events.ensures (c.hand_over-ended.ensures.shows p h s refl at))
+    hand_begun c.args.seal s (names_of c.args.files) c.args.run.events _ _ c.hand_over-ended.result
+    (hand_same c.args.seal _ s _ _ c.args.run.events _ _ c.as_slice-events.ensures
+    (c.hand_over-ended.ensures.shows p h s c.args.seal are refl at))
+
+pub returns-in_err-seals-clause-in_order : goal.returns-in_err-seals-clause-in_order
+returns-in_err-seals-clause-in_order g c p h = hand_nothing _ _ _ _ _ _ (begun_none _ _)

@@ -1,0 +1,2 @@
+mod Hashed
+pub mod Opened
