@@ -11,12 +11,12 @@ use std::alloc::Global;
 use svg_text::{Class, Element, Elements, Point, Shape};
 
 /// How many columns an event has, before which so many outputs were released.
-pub fn width(before: u64, note: &Note) -> u64
-    ensures { result ≡ width_of before note.now }
+pub fn width(before: u64, note: &Note) -> Result<u64, NoMemory>
+    ensures { IfOk result (λ many. many ≡ width_of before note.now) }
 {
-    let made = note.made.len() as u64;
     let released = note.released.saturating_sub(before);
-    1u64.max(made.max(released))
+    let many = advance(note.made.len() as u64, released)?;
+    Ok(1u64.max(many))
 }
 
 /// The class of the ground of an epoch, where the master is up or down.
@@ -46,7 +46,7 @@ fn band(
 {
     let mut title = Bytes::new(alloc);
     put_named(&mut title, b"epoch ", u64::from(note.epoch))?;
-    let columns = width(before, note).min(10000) as u32;
+    let columns = width(before, note)?.min(10000) as u32;
     let lanes = (threads + 2).min(100) as u32;
     Ok(Element {
         class: band_class(note.up, note.epoch),
@@ -73,7 +73,7 @@ pub fn put_bands(
     let mut before = 0;
     for note in notes {
         out.push(band(alloc, threads, column, before, note)?)?;
-        column = advance(column, width(before, note))?;
+        column = advance(column, width(before, note)?)?;
         before = note.released;
     }
     Ok(())
