@@ -2,11 +2,12 @@ ghost use Rattle.std.specs.Prelude.{◌≡◌, ◌++◌, ◌<◌, IfOk, OnOk, co
 ghost use Rattle.run_drawing.specs.Picture.{band_class as band_for, band_of, bands_from};
 ghost use Rattle.run_drawing.specs.Picture.{lane_elements, logger_lanes, thread_lanes, words_at};
 ghost use Rattle.run_drawing.specs.Places.{width as width_of};
+ghost use Rattle.run_drawing.specs.Slices.{number_at};
 
 use crate::Note;
 use crate::marks::put_named;
 use crate::places::{advance, in_cell, top};
-use plain_text::{Bytes, NoMemory};
+use plain_text::{Bytes, NoMemory, put_u64};
 use std::alloc::Global;
 use svg_text::{Class, Element, Elements, Point, Shape};
 
@@ -91,6 +92,23 @@ pub fn words(alloc: Global, class: Class, at: Point, text: &[u8]) -> Result<Elem
             words: Bytes::of(alloc, text)?,
         },
     })
+}
+
+/// Appends a number at a place, unless it has more than nine digits.
+pub fn put_number(
+    alloc: Global,
+    out: &mut Elements,
+    at: Point,
+    number: u64,
+) -> Result<(), NoMemory>
+    ensures { OnOk result (out.new ≡ out.old ++ number_at at.x at.y number) }
+{
+    if number > 999_999_999 {
+        return Ok(());
+    }
+    let mut digits = Bytes::new(alloc);
+    put_u64(&mut digits, number)?;
+    out.push(words(alloc, Class::Note, at, digits.as_slice())?)
 }
 
 /// Appends a lane with its word.
