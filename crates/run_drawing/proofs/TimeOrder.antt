@@ -18,7 +18,7 @@ use Rattle.run_drawing.specs.Picture.{Drawn, after_note, cell_at, event_elements
 use Rattle.run_drawing.specs.Picture.{is_several, moves_from, number_note, releases_from, sign_at, sign_class}
 use Rattle.run_drawing.specs.Picture.{signs_of}
 use Rattle.run_drawing.specs.Places.{arrivals, columns, entry_lane, left, width}
-use Rattle.run_drawing.specs.Promises.{is_placed, middle, places}
+use Rattle.run_drawing.specs.Promises.{is_placed, place_of, places}
 use Rattle.run_drawing.proofs.Rising.{Rises, rises, rises_append}
 
 places_append : (xs ys : List Element) → places (xs ++ ys) ≡ places xs ++ places ys
@@ -26,11 +26,11 @@ places_append [] ys = refl
 places_append (x ∷ xs) ys = by (is_placed x.class) (places_append xs ys)
   where
     by : (b : Bool) → places (xs ++ ys) ≡ places xs ++ places ys
-        → map (λ (e : Element). middle e.shape) (if b then x ∷ filter (λ (e : Element). is_placed e.class) (xs ++ ys)
+        → map (λ (e : Element). place_of e.shape) (if b then x ∷ filter (λ (e : Element). is_placed e.class) (xs ++ ys)
         else filter (λ (e : Element). is_placed e.class) (xs ++ ys))
-        ≡ map (λ (e : Element). middle e.shape) (if b then x ∷ filter (λ (e : Element). is_placed e.class) xs
+        ≡ map (λ (e : Element). place_of e.shape) (if b then x ∷ filter (λ (e : Element). is_placed e.class) xs
         else filter (λ (e : Element). is_placed e.class) xs) ++ places ys
-    by true h = ap (λ (l : List ℕ). middle x.shape ∷ l) h
+    by true h = ap (λ (l : List ℕ). place_of x.shape ∷ l) h
     by false h = h
 
 -- two pieces one after another
@@ -76,7 +76,7 @@ touch_middle l = omega arith
 end_middle : (l : ℕ) → l + 8 + 4 / 2 ≡ l + 10
 end_middle l = omega arith
 
-mark_middle : (column lane : ℕ) (d : Did) → middle (shape_of column lane d) ≡ spot column
+mark_middle : (column lane : ℕ) (d : Did) → place_of (shape_of column lane d) ≡ spot column
 mark_middle column lane (did.Took k) = took_middle (left column)
 mark_middle column lane (did.Logged n (what.Access v p)) = touch_middle (left column)
 mark_middle column lane (did.Logged n (what.Read v a)) = refl
@@ -104,11 +104,11 @@ mark_rises : (line : List ℕ) (gone : List Cell) (later : List Note) (place col
     → Rises (spot column) (spot column) (places (mark_of line gone later place column m ∷ []))
 mark_rises line gone later place column m =
     let mark = mark_of line gone later place column m in
-    let shown : places (mark ∷ []) ≡ middle mark.shape ∷ [] =
-    ap (λ (b : Bool). map (λ (e : Element). middle e.shape) (if b then mark ∷ [] else []))
+    let shown : places (mark ∷ []) ≡ place_of mark.shape ∷ [] =
+    ap (λ (b : Bool). map (λ (e : Element). place_of e.shape) (if b then mark ∷ [] else []))
     (mark_placed (is_lost place later) (is_again m gone) m.did) in
     subst (λ (l : List ℕ). Rises (spot column) (spot column) l) (sym shown)
-    (at_spot (spot column) (middle mark.shape) (sym (mark_middle column m.thread m.did)))
+    (at_spot (spot column) (place_of mark.shape) (sym (mark_middle column m.thread m.did)))
 
 entry_rises : (several : Bool) (lane column : ℕ) (title : List ℕ) (d : Did)
     → Rises (spot column) (spot column) (places (entry_with several lane column title d))

@@ -1,5 +1,5 @@
 -- The overview of a long run: how many packets came in, how many outputs were released and how many wait, against the
--- number of events: at the opening, behind 200 of the events at most, and behind the last; where an epoch began; and how
+-- number of events: at the opening, after 200 of the events at most, and after the last; where an epoch began; and how
 -- many moves each thread made. Scales tell the numbers.
 use Rattle.std.specs.Prelude.{ℕ, ◌+◌, ◌/◌, ◌%◌, ◌==◌, ◌||◌, max, nat_eq, if◌then◌else◌, List, [], ◌∷◌, ◌++◌}
 use Rattle.std.specs.Prelude.{None, Some, codes, decimal, length}

@@ -80,13 +80,13 @@ nearest (p ∷ []) = p.x
 nearest (p ∷ q ∷ points) = min p.x (nearest (q ∷ points))
 
 -- the x of a shape: that of its middle; of words the one that they are set at
-abbrev pub middle : Shape → ℕ
-middle (shape.Line from to) = (from.x + to.x) / 2
-middle (shape.Rectangle corner width height) = corner.x + width / 2
-middle (shape.Circle middle radius) = middle.x
-middle (shape.Polygon points) = (nearest points + furthest points) / 2
-middle (shape.Polyline points) = (nearest points + furthest points) / 2
-middle (shape.Words at words) = at.x
+abbrev pub place_of : Shape → ℕ
+place_of (shape.Line from to) = (from.x + to.x) / 2
+place_of (shape.Rectangle corner width height) = corner.x + width / 2
+place_of (shape.Circle middle radius) = middle.x
+place_of (shape.Polygon points) = (nearest points + furthest points) / 2
+place_of (shape.Polyline points) = (nearest points + furthest points) / 2
+place_of (shape.Words at words) = at.x
 
 -- all stands at a place but an arrow, which leads from one to another
 abbrev pub is_placed : Class → Bool
@@ -95,4 +95,4 @@ is_placed _ = true
 
 -- the x of each mark, sign and number, in the order in which they are drawn
 abbrev pub places : List Element → List ℕ
-places elements = map (λ (e : Element). middle e.shape) (filter (λ (e : Element). is_placed e.class) elements)
+places elements = map (λ (e : Element). place_of e.shape) (filter (λ (e : Element). is_placed e.class) elements)
