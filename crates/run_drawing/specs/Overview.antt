@@ -26,7 +26,7 @@ sample_of i n =
 abbrev pub first_sample : Sample
 first_sample = record { index = 0; fed = 0; released = 0; waiting = 0; epoch = 1 }
 
--- behind every so many of the events one, and behind the last of so many, where so many events came before these
+-- after every so many events one, and one after the last of so many, where this number of them came before these
 abbrev pub samples_from : ℕ → ℕ → ℕ → List Note → List Sample
 samples_from every many i [] = []
 samples_from every many i (n ∷ later) =

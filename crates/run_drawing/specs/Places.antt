@@ -28,7 +28,7 @@ output_lane threads = threads + 1
 abbrev pub width : ℕ → Note → ℕ
 width before n = max 1 (length n.made + (n.released - before))
 
--- What arrived with an event stands after its moves: from this column on, where the event begins at the other.
+-- what arrived with an event stands after its moves: from here on, where the event begins in this column
 abbrev pub arrivals : ℕ → Note → ℕ
 arrivals column n = column + length n.made
 

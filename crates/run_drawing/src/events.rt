@@ -82,7 +82,15 @@ fn put_note(
         sign_for(note.event, &note.outcome),
     )?;
     let many = note.released.saturating_sub(before);
-    put_releases(alloc, out, threads, arrivals, line, advance(before, 1)?, many)?;
+    put_releases(
+        alloc,
+        out,
+        threads,
+        arrivals,
+        line,
+        advance(before, 1)?,
+        many,
+    )?;
     state.column = advance(column, width(before, note)?)?;
     state.released = note.released;
     Ok(())

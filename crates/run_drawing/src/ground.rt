@@ -95,12 +95,7 @@ pub fn words(alloc: Global, class: Class, at: Point, text: &[u8]) -> Result<Elem
 }
 
 /// Appends a number at a place, unless it has more than nine digits.
-pub fn put_number(
-    alloc: Global,
-    out: &mut Elements,
-    at: Point,
-    number: u64,
-) -> Result<(), NoMemory>
+pub fn put_number(alloc: Global, out: &mut Elements, at: Point, number: u64) -> Result<(), NoMemory>
     ensures { OnOk result (out.new ≡ out.old ++ number_at at.x at.y number) }
 {
     if number > 999_999_999 {

@@ -23,8 +23,9 @@ pub fn every_released_output_has_one_full_mark()
         → titles_where is_released (events_from threads at_first notes) ≡ release_titles 0 notes }
 {}
 
-/// Time goes to the right: what happened later is drawn later, an output behind all moves of the event that released it,
-/// and nothing stands further left than what was drawn before it. So the x of a release is at least that of its `send`.
+/// Time goes to the right: moves and releases are drawn in the order in which they happened, an output after all moves of
+/// the event that released it, and nothing but an arrow stands further left than what was drawn before it. So the x of a
+/// release is at least that of its `send`.
 pub fn no_release_stands_left_of_its_send()
     ensures order { (threads : ℕ) (notes : List note_of.Note)
         → titles_where is_move_or_release (events_from threads at_first notes)

@@ -29,7 +29,7 @@ fn first() -> Sample
     }
 }
 
-/// What stands behind an event, up to which there are so many.
+/// What stands after the event of this number, from 1.
 fn sample(index: u64, note: &Note) -> Sample
     ensures { result ≡ sample_of index note.now }
 {
@@ -42,7 +42,7 @@ fn sample(index: u64, note: &Note) -> Sample
     }
 }
 
-/// One before any event, one behind every so many of the events, and one behind the last.
+/// One before any event, one after every so many events, and one after the last.
 fn take_samples(alloc: Global, every: u64, notes: &[Note]) -> Result<Vec<Sample>, NoMemory>
     requires { 1 ≤ every }
     ensures { IfOk result (λ samples. samples.items
