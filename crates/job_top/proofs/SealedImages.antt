@@ -43,8 +43,8 @@ counted n texts = filter (λ line. words_count (words_of line.1)) (enumerate_fro
 shifted : {S A : Type 0} (form : StagedForm S A) (texts : List (List ℕ)) (stage : S) (things : List A) (n m : ℕ)
     → Begins form stage (counted n texts) things [] → Begins form stage (counted m texts) things []
 shifted form [] stage things n m h = h
-shifted {S} {A} form (text ∷ texts) stage things n m =
-    by (λ s ts k l. shifted form texts s ts k l) (words_count (words_of text)) things
+shifted {S} {A} form (text ∷ texts) stage things n m h =
+    by (λ s ts k l. shifted form texts s ts k l) (words_count (words_of text)) things h
   where
     by : ((s : S) (ts : List A) (k l : ℕ) → Begins form s (counted k texts) ts [] → Begins form s (counted l texts) ts [])
         → (b : Bool) (things : List A)
