@@ -20,45 +20,30 @@ struct Call {
     rest: &'static str,
 }
 
-impl Call {
-    const fn of(
-        word: &'static str,
-        count: usize,
-        inputs: usize,
-        outputs: usize,
-        rest: &'static str,
-    ) -> Call {
-        Call {
-            word,
-            count,
-            inputs,
-            outputs,
-            rest,
-        }
-    }
-}
+/// The same, as the table has it.
+type CallRow = (&'static str, usize, usize, usize, &'static str);
 
 /// The commands. Those of taps may have any number of words.
-static CALLS: [Call; 13] = [
-    Call::of("run", 6, 3, 2, "BOX CAPTURE SCRIPT RELEASED SCHEDULE"),
-    Call::of("live", 7, 3, 3, "BOX CAPTURE PLAN RELEASED SCHEDULE SCRIPT"),
-    Call::of("drill", 6, 2, 2, "BOX CAPTURE EVERY RELEASED SCHEDULE"),
-    Call::of("trace", 5, 3, 1, "BOX CAPTURE SCRIPT TABLE"),
-    Call::of("picture", 5, 3, 1, "BOX CAPTURE SCRIPT PICTURE"),
-    Call::of(
+static CALLS: [CallRow; 13] = [
+    ("run", 6, 3, 2, "BOX CAPTURE SCRIPT RELEASED SCHEDULE"),
+    ("live", 7, 3, 3, "BOX CAPTURE PLAN RELEASED SCHEDULE SCRIPT"),
+    ("drill", 6, 2, 2, "BOX CAPTURE EVERY RELEASED SCHEDULE"),
+    ("trace", 5, 3, 1, "BOX CAPTURE SCRIPT TABLE"),
+    ("picture", 5, 3, 1, "BOX CAPTURE SCRIPT PICTURE"),
+    (
         "chain",
         9,
         4,
         4,
         "BOX1 BOX2 CAPTURE SCRIPT MIDDLE RELEASED SCHEDULE1 SCHEDULE2",
     ),
-    Call::of("hand", 6, 3, 2, "BOX CAPTURE SCRIPT RELEASED HANDOVER"),
-    Call::of("resume", 7, 4, 2, "BOX CAPTURE HANDOVER SCRIPT RELEASED SCHEDULE"),
-    Call::of("tap", 0, 0, 0, "NAME [tap NAME] .. run .. or live .."),
-    Call::of("play", 5, 3, 1, "BOX CAPTURE SCHEDULE OUT"),
-    Call::of("check", 5, 4, 0, "BOX CAPTURE SCHEDULE RELEASED"),
-    Call::of("make", 4, 0, 1, "SEED N CAPTURE"),
-    Call::of("watch", 4, 1, 0, "CAPTURE SKIP QUOTA"),
+    ("hand", 6, 3, 2, "BOX CAPTURE SCRIPT RELEASED HANDOVER"),
+    ("resume", 7, 4, 2, "BOX CAPTURE HANDOVER SCRIPT RELEASED SCHEDULE"),
+    ("tap", 0, 0, 0, "NAME [tap NAME] .. run .. or live .."),
+    ("play", 5, 3, 1, "BOX CAPTURE SCHEDULE OUT"),
+    ("check", 5, 4, 0, "BOX CAPTURE SCHEDULE RELEASED"),
+    ("make", 4, 0, 1, "SEED N CAPTURE"),
+    ("watch", 4, 1, 0, "CAPTURE SKIP QUOTA"),
 ];
 
 /// Tells how the command is called whose first word stands there, or the one that is nearest to it.
@@ -97,9 +82,24 @@ fn tell_call<R: Eprint>(rt: &R, words: &[Text], call: Call) -> io::Result<()> {
     }
 }
 
+fn call_from(row: CallRow) -> Call {
+    let (word, count, inputs, outputs, rest) = row;
+    Call {
+        word,
+        count,
+        inputs,
+        outputs,
+        rest,
+    }
+}
+
 /// The command with this first word.
 fn call_named(word: &str) -> Option<Call> {
-    CALLS.iter().copied().find(|call| call.word == word)
+    CALLS
+        .iter()
+        .copied()
+        .find(|row| row.0 == word)
+        .map(call_from)
 }
 
 /// The command whose first word was meant.
@@ -107,7 +107,8 @@ fn call_near(word: &str) -> Option<Call> {
     CALLS
         .iter()
         .copied()
-        .find(|call| is_meant(word.as_bytes(), call.word.as_bytes()))
+        .find(|row| is_meant(word.as_bytes(), row.0.as_bytes()))
+        .map(call_from)
 }
 
 /// The first name that an output has and another file of the command, too.

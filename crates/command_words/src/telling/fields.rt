@@ -1,17 +1,7 @@
 //! The fields of frames, packets and segments, each with the place behind its last byte.
 
-/// A field, and where the next begins.
-#[derive(Clone, Copy)]
-struct Part {
-    end: usize,
-    name: &'static str,
-}
-
-impl Part {
-    const fn of(end: usize, name: &'static str) -> Part {
-        Part { end, name }
-    }
-}
+/// The place where the next field begins, and the name of this one.
+type Part = (usize, &'static str);
 
 /// What is in no header.
 const DATA: &str = "data";
@@ -22,51 +12,51 @@ const IPV4: [u8; 2] = [0x08, 0x00];
 
 /// An untagged Ethernet header (IEEE 802.3).
 static ETHERNET_PARTS: [Part; 3] = [
-    Part::of(6, "Ethernet destination"),
-    Part::of(12, "Ethernet source"),
-    Part::of(14, "EtherType"),
+    (6, "Ethernet destination"),
+    (12, "Ethernet source"),
+    (14, "EtherType"),
 ];
 
 static TAGGED_PARTS: [Part; 4] = [
-    Part::of(6, "Ethernet destination"),
-    Part::of(12, "Ethernet source"),
-    Part::of(16, "VLAN tag"),
-    Part::of(18, "EtherType"),
+    (6, "Ethernet destination"),
+    (12, "Ethernet source"),
+    (16, "VLAN tag"),
+    (18, "EtherType"),
 ];
 
 /// RFC 791, section 3.1.
 static IPV4_PARTS: [Part; 10] = [
-    Part::of(1, "version and header length"),
-    Part::of(2, "type of service"),
-    Part::of(4, "total length"),
-    Part::of(6, "identification"),
-    Part::of(8, "flags and fragment offset"),
-    Part::of(9, "time to live"),
-    Part::of(10, "protocol"),
-    Part::of(12, "header checksum"),
-    Part::of(16, "source address"),
-    Part::of(20, "destination address"),
+    (1, "version and header length"),
+    (2, "type of service"),
+    (4, "total length"),
+    (6, "identification"),
+    (8, "flags and fragment offset"),
+    (9, "time to live"),
+    (10, "protocol"),
+    (12, "header checksum"),
+    (16, "source address"),
+    (20, "destination address"),
 ];
 
 /// RFC 9293, section 3.1.
 static TCP_PARTS: [Part; 9] = [
-    Part::of(2, "TCP source port"),
-    Part::of(4, "TCP destination port"),
-    Part::of(8, "TCP sequence number"),
-    Part::of(12, "TCP acknowledgment number"),
-    Part::of(13, "TCP data offset"),
-    Part::of(14, "TCP control bits"),
-    Part::of(16, "TCP window"),
-    Part::of(18, "TCP checksum"),
-    Part::of(20, "TCP urgent pointer"),
+    (2, "TCP source port"),
+    (4, "TCP destination port"),
+    (8, "TCP sequence number"),
+    (12, "TCP acknowledgment number"),
+    (13, "TCP data offset"),
+    (14, "TCP control bits"),
+    (16, "TCP window"),
+    (18, "TCP checksum"),
+    (20, "TCP urgent pointer"),
 ];
 
 /// RFC 768.
 static UDP_PARTS: [Part; 4] = [
-    Part::of(2, "UDP source port"),
-    Part::of(4, "UDP destination port"),
-    Part::of(6, "UDP length"),
-    Part::of(8, "UDP checksum"),
+    (2, "UDP source port"),
+    (4, "UDP destination port"),
+    (6, "UDP length"),
+    (8, "UDP checksum"),
 ];
 
 /// The field of an Ethernet frame at this place.
@@ -92,8 +82,8 @@ fn part_or_packet(frame: &[u8], place: usize, parts: &[Part], length: usize) -> 
 
 /// The name of the field at this place, of a header with these.
 fn part_at(parts: &[Part], place: usize) -> Option<&'static str> {
-    let part = parts.iter().find(|part| place < part.end)?;
-    Some(part.name)
+    let (_, name) = parts.iter().copied().find(|part| place < part.0)?;
+    Some(name)
 }
 
 /// The field of an IPv4 packet at this place.

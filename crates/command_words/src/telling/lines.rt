@@ -7,7 +7,7 @@ use std::io;
 use std::rt::Files;
 
 /// How many bytes of a line are shown.
-const SHOWN: usize = 60;
+const MOST_SHOWN: usize = 60;
 
 /// A line of a file that is told of.
 #[derive(Clone, Copy)]
@@ -124,7 +124,7 @@ fn byte_order_mark(text: &[u8]) -> Option<&'static str> {
 
 /// The first bytes of a line.
 fn front(line: &[u8]) -> Shown<'_> {
-    Shown::of(line.get(..SHOWN).unwrap_or(line))
+    Shown::of(line.get(..MOST_SHOWN).unwrap_or(line))
 }
 
 fn tell_shown<R: Eprint>(rt: &R, told: Told<'_>) -> io::Result<()> {

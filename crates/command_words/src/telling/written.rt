@@ -36,7 +36,7 @@ pub fn tell_unwritten<R: AllocGlobal + Files + Eprint>(rt: &R, words: &[Text]) -
             continue;
         }
         let name = words[place].as_str();
-        if let Some(obstacle) = obstacle(rt, name, place == places.outputs_from) {
+        if let Some(obstacle) = find_obstacle(rt, name, place == places.outputs_from) {
             return tell_obstacle(rt, Shown::name(name), obstacle);
         }
     }
@@ -56,7 +56,7 @@ fn tell_obstacle<R: Eprint>(rt: &R, name: Shown<'_>, obstacle: Obstacle) -> io::
 
 /// What is in the way of writing to this name; `first` says that it is the first output, to which something is written
 /// before any other is created.
-fn obstacle<R: Files>(rt: &R, name: &str, first: bool) -> Option<Obstacle> {
+fn find_obstacle<R: Files>(rt: &R, name: &str, first: bool) -> Option<Obstacle> {
     match Path::new(name).metadata(rt) {
         Ok(about) => obstacle_there(rt, name, &about, first),
         Err(error) => {
