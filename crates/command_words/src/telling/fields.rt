@@ -8,6 +8,7 @@ const DATA: &str = "data";
 
 /// The bytes of a tag (IEEE 802.1Q), and those by which a frame says that IPv4 follows.
 const TAG: [u8; 2] = [0x81, 0x00];
+
 const IPV4: [u8; 2] = [0x08, 0x00];
 
 /// An untagged Ethernet header (IEEE 802.3).

@@ -1,10 +1,9 @@
 use super::shown::Shown;
 use plain_text::{MOST_FILE_BYTES, Text};
 use std::alloc::Global;
-use std::fs;
-use std::io;
 use std::path::Path;
 use std::rt::Files;
+use std::{fs, io};
 
 /// The bytes of a file that is no stream and no larger than an input may be. What a stream gave is
 /// gone, so it is not read again.

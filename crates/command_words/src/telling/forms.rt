@@ -26,16 +26,32 @@ pub struct LineForm {
 type FormRow = (&'static str, &'static str, &'static str);
 
 static BOX_LINES: [FormRow; 15] = [
-    ("box", "box KIND, one of count, monitor, nat, balancer", "box nat"),
+    (
+        "box",
+        "box KIND, one of count, monitor, nat, balancer",
+        "box nat",
+    ),
     ("threads", "threads N, of 1 to 16", "threads 4"),
     ("seed", "seed S, below 2^64", "seed 7"),
     ("shards", "shards S, of 1 to 64", "shards 16"),
     ("vlan", "the word alone", "vlan"),
     ("seal", "the word alone", "seal"),
-    ("inside", "inside ADDRESS LENGTH, of 1 to 32 bits", "inside 10.0.0.0 8"),
+    (
+        "inside",
+        "inside ADDRESS LENGTH, of 1 to 32 bits",
+        "inside 10.0.0.0 8",
+    ),
     ("outside", "outside ADDRESS", "outside 203.0.113.1"),
-    ("ports", "ports LOW HIGH, of 1 to 65535, LOW at most HIGH", "ports 1024 65535"),
-    ("closing", "closing SECONDS, of 1 to 4294967295", "closing 240"),
+    (
+        "ports",
+        "ports LOW HIGH, of 1 to 65535, LOW at most HIGH",
+        "ports 1024 65535",
+    ),
+    (
+        "closing",
+        "closing SECONDS, of 1 to 4294967295",
+        "closing 240",
+    ),
     ("limit", "limit N, of 1 to 65535", "limit 1000"),
     ("icmp", "icmp errors", "icmp errors"),
     (
@@ -61,8 +77,16 @@ static SCRIPT_LINES: [FormRow; 15] = [
     ("step", "step T, or step T = V", "step 0"),
     ("log", "log T N", "log 0 1"),
     ("out", "out T J", "out 0 1"),
-    ("late", "late E log T N, or late E out T J", "late 1 log 0 1"),
-    ("cut", "cut log T N LENGTH, or cut out T J LENGTH", "cut log 0 1 8"),
+    (
+        "late",
+        "late E log T N, or late E out T J",
+        "late 1 log 0 1",
+    ),
+    (
+        "cut",
+        "cut log T N LENGTH, or cut out T J LENGTH",
+        "cut log 0 1 8",
+    ),
     ("snap", "the word alone", "snap"),
     ("store", "the word alone", "store"),
     ("crash", "the word alone", "crash"),
@@ -87,7 +111,11 @@ static PLAN_LINES: [FormRow; 10] = [
 ];
 
 static HANDOVER_LINES: [FormRow; 5] = [
-    ("handover", "handover 1, after its seal if it has one", "handover 1"),
+    (
+        "handover",
+        "handover 1, after its seal if it has one",
+        "handover 1",
+    ),
     (
         "state",
         "state FED CLOCK DRAWS EPOCH MOVES BYTES, EPOCH below 2^32",
@@ -126,7 +154,9 @@ impl Grammar {
     /// The words that lines have after the first.
     pub fn later_words(self) -> &'static [&'static str] {
         match self {
-            Grammar::BoxFile => &["count", "monitor", "nat", "balancer", "tcp", "udp", "errors"],
+            Grammar::BoxFile => &[
+                "count", "monitor", "nat", "balancer", "tcp", "udp", "errors",
+            ],
             Grammar::Script | Grammar::Chain => &["log", "out", "="],
             Grammar::Plan => &["log", "out"],
             Grammar::Schedule | Grammar::Handover => &["="],
@@ -199,7 +229,9 @@ pub fn stranger_in(grammar: Grammar, line: &[u8]) -> Option<Stranger<'_>> {
     }
     let known = grammar.later_words();
     let behind = if grammar == Grammar::Chain { 2 } else { 1 };
-    let word = words(line).skip(behind).find(|word| !is_known(word, known))?;
+    let word = words(line)
+        .skip(behind)
+        .find(|word| !is_known(word, known))?;
     let near = nearest(word, known);
     Some(Stranger { word, near })
 }

@@ -29,7 +29,9 @@ pub fn tell_limit<R: AllocGlobal + Files + Eprint>(
         }
         Limit::OutputBytes => {
             let most = MOST_OUTPUT_BYTES;
-            eprintln!(rt; "the run would send out more than {most} bytes, with those that are sent again")
+            eprintln!(rt;
+                "the run would send out more than {most} bytes, with those that are sent again"
+            )
         }
     }
 }
@@ -67,7 +69,9 @@ fn tell_packets<R: AllocGlobal + Files + Eprint>(rt: &R, line: &[Text]) -> io::R
     };
     let name = Shown::name(name.as_str());
     let most = MOST_PACKETS;
-    eprintln!(rt; "{name}: more than {most} packets; to split it: editcap -c {most} {name} part.pcap")
+    eprintln!(rt;
+        "{name}: more than {most} packets; to split it: editcap -c {most} {name} part.pcap"
+    )
 }
 
 /// The capture that has too many packets: that of `check` which was released, if its other one has not.
@@ -91,7 +95,12 @@ fn tell_events<R: AllocGlobal + Files + Eprint>(rt: &R, line: &[Text]) -> io::Re
         return Ok(());
     };
     let most = MOST_EVENTS;
-    for name in [handover(command), script(command), plan(command), schedule(command)] {
+    for name in [
+        handover(command),
+        script(command),
+        plan(command),
+        schedule(command),
+    ] {
         if let Some(name) = name {
             if let Some(text) = read_again(rt, name) {
                 let count = count_events(&text);
@@ -103,7 +112,9 @@ fn tell_events<R: AllocGlobal + Files + Eprint>(rt: &R, line: &[Text]) -> io::Re
         }
     }
     match command {
-        Command::Live(_) => eprintln!(rt; "the script of the run would have more than {most} events"),
+        Command::Live(_) => eprintln!(rt;
+            "the script of the run would have more than {most} events"
+        ),
         _ => eprintln!(rt; "an input has more than {most} events"),
     }
 }

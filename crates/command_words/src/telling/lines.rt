@@ -35,7 +35,9 @@ pub fn tell_line<R: AllocGlobal + Files + Eprint>(
     };
     if let Some(mark) = byte_order_mark(&text) {
         let name = Shown::name(name.as_str());
-        return eprintln!(rt; "{name}: it begins with a byte order mark ({mark}): save it without one");
+        return eprintln!(rt;
+            "{name}: it begins with a byte order mark ({mark}): save it without one"
+        );
     }
     let Some(told) = line_at(name, &text, fault.line) else {
         return Ok(());
@@ -145,7 +147,9 @@ fn tell_unknown<R: Eprint>(rt: &R, told: Told<'_>, grammar: Grammar) -> io::Resu
     let word = front(word);
     match near {
         Some(near) => {
-            eprintln!(rt; "{name}: line {number} is: {shown}; unknown keyword \"{word}\": is {near} meant?")
+            eprintln!(rt;
+                "{name}: line {number} is: {shown}; unknown keyword \"{word}\": is {near} meant?"
+            )
         }
         None => eprintln!(rt; "{name}: line {number} is: {shown}; unknown keyword \"{word}\""),
     }

@@ -45,7 +45,11 @@ impl<'a> Timed<'a> {
     fn differences(self, other: Timed<'_>) -> usize {
         let bytes = self.packet.bytes.as_slice();
         let others = other.packet.bytes.as_slice();
-        let unequal = bytes.iter().zip(others.iter()).filter(|(a, b)| a != b).count();
+        let unequal = bytes
+            .iter()
+            .zip(others.iter())
+            .filter(|(a, b)| a != b)
+            .count();
         unequal
             .saturating_add(bytes.len().abs_diff(others.len()))
             .saturating_add(usize::from(!self.is_at_once(other)))
@@ -70,12 +74,16 @@ pub fn tell_packet<R: AllocGlobal + Files + Eprint>(
         return Ok(());
     };
     if let Some(place) = place_of_same(&sent, refused) {
-        return eprintln!(rt; "{name}: packet {number} is emission {place} once more, as an earlier packet is");
+        return eprintln!(rt;
+            "{name}: packet {number} is emission {place} once more, as an earlier packet is"
+        );
     }
     let count = sent.packets.len();
     match nearest_left(rt.alloc(), &sent, &released, number, refused) {
         Some(near) => tell_difference(rt, name, number, refused, near),
-        None => eprintln!(rt; "{name}: packet {number}: the schedule sends out {count} packets, all found before"),
+        None => eprintln!(rt;
+            "{name}: packet {number}: the schedule sends out {count} packets, all found before"
+        ),
     }
 }
 
@@ -122,7 +130,10 @@ fn place_of_same(capture: &Captured, packet: Timed<'_>) -> Option<u64> {
     let mut number: u64 = 0;
     for other in capture.packets.as_slice() {
         number = number.saturating_add(1);
-        if packet.is_same(Timed { packet: other, unit }) {
+        if packet.is_same(Timed {
+            packet: other,
+            unit,
+        }) {
             return Some(number);
         }
     }
@@ -197,7 +208,12 @@ fn free_from(sent: &Captured, taken: &[bool], from: usize, packet: Timed<'_>) ->
     let taken = taken.get(from..)?;
     let mut place = from;
     for (other, is_taken) in packets.iter().zip(taken.iter()) {
-        if !*is_taken && packet.is_same(Timed { packet: other, unit }) {
+        if !*is_taken
+            && packet.is_same(Timed {
+                packet: other,
+                unit,
+            })
+        {
             return Some(place);
         }
         place = place.saturating_add(1);
@@ -220,12 +236,16 @@ fn tell_difference<R: Eprint>(
     let place = first_unequal(bytes, others);
     if let (Some(byte), Some(other)) = (bytes.get(place), others.get(place)) {
         let field = field_at(others, place);
-        return eprintln!(rt; "{name}: packet {number}: byte {place} is {byte}, {other} in emission {emission} ({field})");
+        return eprintln!(rt;
+            "{name}: packet {number}: byte {place} is {byte}, {other} in emission {emission} ({field})"
+        );
     }
     let count = bytes.len();
     let others = others.len();
     if count != others {
-        return eprintln!(rt; "{name}: packet {number}: it has {count} bytes, {others} in emission {emission}");
+        return eprintln!(rt;
+            "{name}: packet {number}: it has {count} bytes, {others} in emission {emission}"
+        );
     }
     tell_times(rt, name, number, refused, near)
 }
@@ -242,13 +262,17 @@ fn tell_times<R: Eprint>(
     let length = refused.packet.original;
     let other = near.sent.packet.original;
     if length != other {
-        return eprintln!(rt; "{name}: packet {number}: {length} bytes on the wire, {other} in emission {emission}");
+        return eprintln!(rt;
+            "{name}: packet {number}: {length} bytes on the wire, {other} in emission {emission}"
+        );
     }
     let seconds = refused.packet.seconds;
     let fraction = refused.nanoseconds();
     let others = near.sent.packet.seconds;
     let other = near.sent.nanoseconds();
-    eprintln!(rt; "{name}: packet {number}: its time is {seconds}.{fraction:09}, {others}.{other:09} in emission {emission}")
+    eprintln!(rt;
+        "{name}: packet {number}: its time is {seconds}.{fraction:09}, {others}.{other:09} in emission {emission}"
+    )
 }
 
 /// How many bytes are the same at the front of both.

@@ -1,7 +1,6 @@
 ghost use Rattle.std.specs.Prelude.{◌↔◌, ◌≤◌, ◌<◌, IsTrue};
 
-use std::fmt;
-use std::str;
+use std::{fmt, str};
 
 /// Bytes as a message shows them: a text as it stands, but its control characters as numbers, and so each byte that is
 /// no printable ASCII where they are no text. So no file and no name can drive a terminal. No bytes are shown as two

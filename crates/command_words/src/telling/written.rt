@@ -12,6 +12,7 @@ const FULL_DEVICE: u64 = 0x107;
 
 /// The errors of a folder that may not be written, and of a device without room (errno(3), on Linux).
 const PERMISSION_DENIED: i32 = 13;
+
 const NO_SPACE: i32 = 28;
 
 /// What is in the way of an output.
@@ -70,12 +71,7 @@ fn find_obstacle<R: Files>(rt: &R, name: &str, first: bool) -> Option<Obstacle> 
 }
 
 /// The same of a name under which something is there. No stream is opened.
-fn obstacle_there<R: Files>(
-    rt: &R,
-    name: &str,
-    about: &Metadata,
-    first: bool,
-) -> Option<Obstacle> {
+fn obstacle_there<R: Files>(rt: &R, name: &str, about: &Metadata, first: bool) -> Option<Obstacle> {
     if about.is_dir() {
         return Some(Obstacle::Folder);
     }
