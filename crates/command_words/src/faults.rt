@@ -70,7 +70,7 @@ pub fn second_box(command: Command<'_>) -> Option<&Text>
     }
 }
 
-fn capture(command: Command<'_>) -> Option<&Text>
+pub fn capture(command: Command<'_>) -> Option<&Text>
     ensures { option_copied result ≡ capture_of (asked_of command.entry) }
 {
     match command {
@@ -88,7 +88,7 @@ fn capture(command: Command<'_>) -> Option<&Text>
     }
 }
 
-fn script(command: Command<'_>) -> Option<&Text>
+pub fn script(command: Command<'_>) -> Option<&Text>
     ensures { option_copied result ≡ script_of (asked_of command.entry) }
 {
     match command {
@@ -102,7 +102,7 @@ fn script(command: Command<'_>) -> Option<&Text>
     }
 }
 
-fn plan(command: Command<'_>) -> Option<&Text>
+pub fn plan(command: Command<'_>) -> Option<&Text>
     ensures { option_copied result ≡ plan_of (asked_of command.entry) }
 {
     match command {
@@ -111,7 +111,7 @@ fn plan(command: Command<'_>) -> Option<&Text>
     }
 }
 
-fn schedule(command: Command<'_>) -> Option<&Text>
+pub fn schedule(command: Command<'_>) -> Option<&Text>
     ensures { option_copied result ≡ schedule_of (asked_of command.entry) }
 {
     match command {
@@ -130,7 +130,7 @@ fn released(command: Command<'_>) -> Option<&Text>
     }
 }
 
-fn handover(command: Command<'_>) -> Option<&Text>
+pub fn handover(command: Command<'_>) -> Option<&Text>
     ensures { option_copied result ≡ handover_of (asked_of command.entry) }
 {
     match command {

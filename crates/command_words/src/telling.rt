@@ -1,15 +1,25 @@
 mod boxes;
+mod calls;
 mod captures;
+mod fields;
 mod files;
+mod forms;
+mod limits;
 mod lines;
 mod nearest;
+mod refuted;
+mod shown;
+mod written;
 
+use self::forms::Grammar;
+use self::shown::Shown;
 use crate::clashes::{OtherName, one_file};
 use crate::faults::{box_file, faulty_name, second_box};
 use crate::word_places::{read_line, read_places};
 use hand_faults::{HandCause, HandFault};
 use job_commands::{Command, InputFault, Status, read_command};
 use plain_text::{LineCause, LineFault, Text};
+use schedule_check::Refutation;
 use std::io;
 use std::path::Path;
 use std::rt::Files;
@@ -28,8 +38,16 @@ pub fn tell_more<R: AllocGlobal + Files + Eprint>(
     match status {
         Status::BadWords => tell_words(rt, words),
         Status::ReadFault => tell_unread(rt, words),
-        Status::WriteFault => tell_unwritten(rt, words),
+        Status::WriteFault => written::tell_unwritten(rt, words),
         Status::BadInput(fault) => tell_fault(rt, words, fault),
+        Status::TooLarge(limit) => {
+            limits::tell_limit(rt, words, limit)?;
+            tell_of_box(rt, words)
+        }
+        Status::Refuted(refutation) => {
+            tell_refuted(rt, words, refutation)?;
+            tell_of_box(rt, words)
+        }
         _ => tell_of_box(rt, words),
     }
 }
@@ -37,16 +55,16 @@ pub fn tell_more<R: AllocGlobal + Files + Eprint>(
 /// Which name is not to be that of a file which is written, or which command was meant.
 fn tell_words<R: AllocGlobal + Files + Eprint>(rt: &R, words: &[Text]) -> io::Result<()> {
     let Some(clash) = one_file(rt, words) else {
-        return nearest::tell_usage(rt, words);
+        return calls::tell_usage(rt, words);
     };
     let Some(written) = words.get(clash.written) else {
         return Ok(());
     };
-    let written = written.as_str();
+    let written = Shown::name(written.as_str());
     match clash.other {
         OtherName::Word(place) => match words.get(place) {
             Some(other) => {
-                let other = other.as_str();
+                let other = Shown::name(other.as_str());
                 eprintln!(rt; "{other} and {written} are one file")
             }
             None => Ok(()),
@@ -67,39 +85,19 @@ fn tell_unread<R: AllocGlobal + Files + Eprint>(rt: &R, words: &[Text]) -> io::R
             continue;
         }
         let name = words[place].as_str();
+        let shown = Shown::name(name);
         match Path::new(name).metadata(rt) {
-            Ok(about) if about.is_dir() => return eprintln!(rt; "{name}: it is a folder"),
+            Ok(about) if about.is_dir() => return eprintln!(rt; "{shown}: it is a folder"),
             Ok(about) if about.is_file() => {
                 if let Some(error) = files::reading_error(rt, name) {
-                    return eprintln!(rt; "{name}: {error}");
+                    return eprintln!(rt; "{shown}: {error}");
                 }
             }
             Ok(_) => {}
-            Err(error) => return eprintln!(rt; "{name}: {error}"),
+            Err(error) => return eprintln!(rt; "{shown}: {error}"),
         }
     }
     Ok(())
-}
-
-/// Which of the outputs can't be written, and what the system says of it.
-fn tell_unwritten<R: AllocGlobal + Files + Eprint>(rt: &R, words: &[Text]) -> io::Result<()> {
-    let places = read_places(words);
-    for place in 0..words.len() {
-        if !places.is_written(place) {
-            continue;
-        }
-        let name = words[place].as_str();
-        if Path::new(name)
-            .metadata(rt)
-            .is_ok_and(|about| about.is_dir())
-        {
-            return eprintln!(rt; "{name}: it is a folder");
-        }
-        if let Some(error) = files::writing_error(rt, name) {
-            return eprintln!(rt; "{name}: {error}");
-        }
-    }
-    eprintln!(rt; "no output is at fault by its name: a disk is full, or nobody reads the report")
 }
 
 /// What stands in the input where it leaves its grammar.
@@ -119,27 +117,38 @@ fn tell_fault<R: AllocGlobal + Files + Eprint>(
         InputFault::NgCapture(fault) | InputFault::NgReleased(fault) => {
             captures::tell_pcapng(rt, name, fault)
         }
-        InputFault::Handover(fault) => lines::tell_line(rt, name, line_fault(fault)),
-        InputFault::Script(fault) | InputFault::Plan(fault) | InputFault::Schedule(fault) => {
-            lines::tell_line(rt, name, fault)
-        }
-        InputFault::Moves(_) => Ok(()),
+        InputFault::Handover(fault) => tell_handover(rt, name, fault),
+        InputFault::Script(fault) => lines::tell_line(rt, name, fault, script_grammar(words)),
+        InputFault::Plan(fault) => lines::tell_line(rt, name, fault, Grammar::Plan),
+        InputFault::Schedule(fault) => lines::tell_line(rt, name, fault, Grammar::Schedule),
+        InputFault::Moves(fault) => lines::tell_move(rt, name, fault),
     }
 }
 
-/// The fault of a text of a handover as one of a line. A line that is right by its grammar has no unknown word.
-fn line_fault(fault: HandFault) -> LineFault {
-    let cause = match fault.cause {
-        HandCause::Line(cause) => cause,
+/// What the script is that a command reads.
+fn script_grammar(words: &[Text]) -> Grammar {
+    match read_command(read_line(words)) {
+        Some(Command::Chain(_)) => Grammar::Chain,
+        _ => Grammar::Script,
+    }
+}
+
+/// What stands in a handover from which no system goes on.
+fn tell_handover<R: AllocGlobal + Files + Eprint>(
+    rt: &R,
+    name: &Text,
+    fault: HandFault,
+) -> io::Result<()> {
+    let line = fault.line;
+    match fault.cause {
+        HandCause::Line(cause) => {
+            lines::tell_line(rt, name, LineFault { line, cause }, Grammar::Handover)
+        }
         HandCause::Box
         | HandCause::Capture
         | HandCause::Count
         | HandCause::Move(_)
-        | HandCause::Released => LineCause::OutOfRange,
-    };
-    LineFault {
-        line: fault.line,
-        cause,
+        | HandCause::Released => lines::show_line(rt, name, line),
     }
 }
 
@@ -152,7 +161,22 @@ fn tell_box<R: AllocGlobal + Files + Eprint>(
     if fault.cause == LineCause::MissingLine {
         boxes::tell_missing(rt, name)
     } else {
-        lines::tell_line(rt, name, fault)
+        lines::tell_line(rt, name, fault, Grammar::BoxFile)
+    }
+}
+
+/// Which move of a schedule is not legal, or in what a released packet differs from what was sent out.
+fn tell_refuted<R: AllocGlobal + Files + Eprint>(
+    rt: &R,
+    words: &[Text],
+    refutation: Refutation,
+) -> io::Result<()> {
+    let Some(Command::Check(names)) = read_command(read_line(words)) else {
+        return Ok(());
+    };
+    match refutation {
+        Refutation::Moves(fault) => lines::tell_move(rt, names.files.schedule, fault),
+        Refutation::Packet(number) => refuted::tell_packet(rt, names, number),
     }
 }
 

@@ -1,4 +1,5 @@
 use super::files::read_again;
+use super::shown::Shown;
 use balancer_box::BalancerSettings;
 use box_conf::{BoxKind, read_box};
 use nat_box::NatSettings;
@@ -19,7 +20,7 @@ pub fn tell_missing<R: AllocGlobal + Files + Eprint>(rt: &R, name: &Text) -> io:
     let Some(text) = read_again(rt, name) else {
         return Ok(());
     };
-    let name = name.as_str();
+    let name = Shown::name(name.as_str());
     let Some(first) = lines(&text).next() else {
         return eprintln!(rt; "{name}: it needs a line: box KIND");
     };
@@ -54,7 +55,7 @@ pub fn warn<R: AllocGlobal + Files + Eprint>(rt: &R, name: &Text) -> io::Result<
     };
     match doubt {
         Some(doubt) => {
-            let name = name.as_str();
+            let name = Shown::name(name.as_str());
             eprintln!(rt; "{name}: warning: {doubt}")
         }
         None => Ok(()),

@@ -1,12 +1,41 @@
 use super::files::read_again;
+use super::shown::Shown;
 use pcap_io::{CaptureCause, CaptureFault};
-use pcapng_io::{NgCause, NgFault};
-use plain_text::Text;
+use pcapng_io::{AnyCaptured, NgCause, NgFault, read_any_capture};
+use plain_text::{Packets, Text, Unit};
 use std::io;
 use std::rt::Files;
+use world_io::SliceSource;
 
 /// Where a savefile's header has the link type.
 const LINK_TYPE: usize = 20;
+
+/// The packets of a capture.
+#[derive(Drop)]
+pub struct Captured {
+    /// What the fractions of their times count.
+    pub unit: Unit,
+    pub packets: Packets,
+}
+
+/// A capture that is read again, if it is no stream and is accepted.
+pub fn capture_again<R: AllocGlobal + Files>(rt: &R, name: &Text) -> Option<Captured> {
+    match any_again(rt, name)? {
+        AnyCaptured::Capture { unit, packets } => Some(Captured { unit, packets }),
+        _ => None,
+    }
+}
+
+/// Whether a capture that is read again passes a limit.
+pub fn passes_limit<R: AllocGlobal + Files>(rt: &R, name: &Text) -> bool {
+    matches!(any_again(rt, name), Some(AnyCaptured::TooLarge(_)))
+}
+
+fn any_again<R: AllocGlobal + Files>(rt: &R, name: &Text) -> Option<AnyCaptured> {
+    let bytes = read_again(rt, name)?;
+    let mut source = SliceSource::of(&bytes);
+    Some(read_any_capture(rt.alloc(), &mut source))
+}
 
 /// Tells what a file is that begins as no capture does, which link type one has, or where it ends.
 pub fn tell_pcap<R: AllocGlobal + Files + Eprint>(
@@ -17,7 +46,7 @@ pub fn tell_pcap<R: AllocGlobal + Files + Eprint>(
     let Some(bytes) = read_again(rt, name) else {
         return Ok(());
     };
-    let name = name.as_str();
+    let name = Shown::name(name.as_str());
     match fault.cause {
         CaptureCause::BadMagic => tell_kind(rt, name, &bytes),
         CaptureCause::BadLinkType => match pcap_link_type(&bytes) {
@@ -45,7 +74,7 @@ pub fn tell_pcapng<R: AllocGlobal + Files + Eprint>(
     let Some(bytes) = read_again(rt, name) else {
         return Ok(());
     };
-    let name = name.as_str();
+    let name = Shown::name(name.as_str());
     match fault.cause {
         NgCause::BadLinkType => match block_link_type(&bytes, fault.offset) {
             Some(number) => tell_link_type(rt, name, number),
@@ -59,12 +88,12 @@ pub fn tell_pcapng<R: AllocGlobal + Files + Eprint>(
     }
 }
 
-fn tell_link_type<R: Eprint>(rt: &R, name: &str, number: u32) -> io::Result<()> {
+fn tell_link_type<R: Eprint>(rt: &R, name: Shown<'_>, number: u32) -> io::Result<()> {
     eprintln!(rt; "{name}: link type {number}, and only Ethernet (1) can be read")
 }
 
 /// What a file is that begins as no capture does.
-fn tell_kind<R: Eprint>(rt: &R, name: &str, bytes: &[u8]) -> io::Result<()> {
+fn tell_kind<R: Eprint>(rt: &R, name: Shown<'_>, bytes: &[u8]) -> io::Result<()> {
     match compression(bytes) {
         Some(kind) => eprintln!(rt; "{name}: the file is compressed ({kind}): unpack it first"),
         None => eprintln!(rt; "{name}: it begins as neither a pcap nor a pcapng capture does"),
