@@ -135,9 +135,11 @@ fn weight(line: &[u8]) -> u64 {
     if word == Some(b"1".as_slice()) || word == Some(b"2".as_slice()) {
         word = left.next();
     }
-    if word == Some(b"auto".as_slice()) {
-        left.nth(1).and_then(read_u64).unwrap_or(1)
-    } else {
-        1
+    if word != Some(b"auto".as_slice()) {
+        return 1;
+    }
+    match left.nth(1) {
+        Some(word) => read_u64(word).unwrap_or(1),
+        None => 1,
     }
 }

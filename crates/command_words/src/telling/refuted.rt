@@ -23,10 +23,7 @@ struct Timed<'a> {
 impl<'a> Timed<'a> {
     /// The fraction of its second, in nanoseconds.
     fn nanoseconds(self) -> u64 {
-        match self.unit {
-            Unit::Micro => u64::from(self.packet.fraction) * 1000,
-            Unit::Nano => u64::from(self.packet.fraction),
-        }
+        nanoseconds_of(self.unit, self.packet)
     }
 
     /// Whether two packets came at one time.
@@ -53,6 +50,13 @@ impl<'a> Timed<'a> {
         unequal
             .saturating_add(bytes.len().abs_diff(others.len()))
             .saturating_add(usize::from(!self.is_at_once(other)))
+    }
+}
+
+fn nanoseconds_of(unit: Unit, packet: &Packet) -> u64 {
+    match unit {
+        Unit::Micro => u64::from(packet.fraction) * 1000,
+        Unit::Nano => u64::from(packet.fraction),
     }
 }
 
