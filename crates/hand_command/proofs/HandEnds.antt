@@ -1,5 +1,6 @@
 -- What a whole hand-over leaves in its files.
-use Rattle.std.proofs.Common.{◌≡◌, ℕ, List, [], ◌++◌, refl, sym, subst, inl, inr, Option, Result, Ok, Err}
+use Rattle.std.proofs.Common.{◌≡◌, ◌⊎◌, ℕ, List, [], ◌++◌, append-nil, refl, sym, subst, inl, inr, Option}
+use Rattle.std.proofs.Common.{Result, Ok, Err}
 use Rattle.std.specs.Prelude.{⊤, IsErrOf, OnOk}
 use Rattle.plain_text.specs.declared.limit.Limit.{Limit}
 use Rattle.plain_machine.specs.Program.{Meaning}
@@ -17,23 +18,43 @@ use Rattle.run_writes.specs.declared.error.RunError.{RunError}
 use Rattle.run_writes.specs.declared.error.RunError.TheVariants as run
 use Rattle.run_writes.specs.Errors.{run_error_of}
 use Rattle.run_writes.specs.Replies.{Opens, beginning}
-use Rattle.run_writes.specs.Run.{OutputNames, HasStopped, opening_writes, writes_of}
+use Rattle.run_writes.specs.Run.{OutputNames, HasStopped, WritesSome, opening_writes, writes_of}
+use Rattle.run_writes.proofs.ScriptAnswers.{answers_then}
 use Rattle.run_writes.proofs.RunWrites.{bare_files, has_stopped, text_files}
 use Rattle.run_command.specs.Running.{GoesOn, StoppedThere}
 use Rattle.hand_command.specs.declared.error.HandError.{HandError}
 use Rattle.hand_command.specs.declared.error.HandError.TheVariants as hand
 use Rattle.hand_command.specs.Errors.{hand_error_of, hand_result_of}
-use Rattle.hand_command.specs.Hand.{HasBegunHand, HasHanded, handed_text, IsNotReady, resting}
+use Rattle.hand_command.specs.Hand.{HandsOver, HasBegunHand, HasHanded, IsTooLong, handed_text, IsNotReady, resting}
 use Rattle.hand_command.specs.Handing.{EndsHand, LeftUnready}
 use Rattle.hand_command.proofs.HandSteps.{failed_hand}
+
+-- all events and the last four were performed
+all_performed : {V : Type 0} (s : Setting V) (names : OutputNames) (events : List Event) (hand : HandsOver s events)
+    → WritesSome s names (events ++ resting) (writes_of names s.fractions (hand.replies ++ hand.last))
+all_performed {V} s names events hand = record {
+  before = events ++ resting;
+  after = [];
+  events_are = sym (append-nil (events ++ resting));
+  replies = hand.replies ++ hand.last;
+  world = hand.world;
+  answers = answers_then s (opening V) hand.ready events resting hand.replies hand.last hand.world hand.answers
+      hand.rests;
+  writes_are = refl;
+}
 
 module _ {V : Type 0} (seal : Option (List ℕ)) (s : Setting V) (names : OutputNames) (events : List Event)
     (a b : Shown) where
   -- a first part was written, whatever it came to
   pub hand_begun : (r : Result ⊤ HandError) → EndsHand r seal s names events a b → HasBegunHand seal s names events a b
   hand_begun (Ok done) h = (h.0, inr (inr h.1), begun_all h.0 a b h.2)
-  hand_begun (Err (hand.Limit limit)) h =
+  hand_begun (Err (hand.Limit limit)) (inl h) =
       (h.writes, inr (inl (limit, h.until)), begun_all h.writes a b h.written)
+  hand_begun (Err (hand.Limit limit)) (inr h) = (
+    _,
+    inl (all_performed s names events h.long.hand),
+    begun_all _ a b h.written,
+  )
   hand_begun (Err hand.WriteFault) h = h
   hand_begun (Err hand.NoMemory) h = h
   hand_begun (Err (hand.Unready unready)) h = (
@@ -71,6 +92,7 @@ module _ {V : Type 0} (seal : Option (List ℕ)) (s : Setting V) (names : Output
         → OnOk r (HasHanded seal s names events a b)
     hand_whole (Ok done) (writes, handover, written) = record {
       hand = handover.hand;
+      fits_file = handover.fits_file;
       files = text_files names s.fractions apart (handover.hand.replies ++ handover.hand.last)
           (handed_text seal s handover.hand.image) (done_line handover.hand.world) a b
           (subst (λ (ws : List Write). HasWritten ws a b) handover.writes_are written);
@@ -91,12 +113,20 @@ module _ {V : Type 0} (seal : Option (List ℕ)) (s : Setting V) (names : Output
           files = bare_files names s.fractions apart left.replies a b left.written;
         }
 
+    at_limit : (limit : Limit) → EndsHand (Err (hand.Limit limit)) seal s names events a b
+        → HasStopped s names (events ++ resting) limit a b ⊎ IsTooLong seal s names events limit a b
+    at_limit limit (inl stopped) =
+        inl (has_stopped s names (events ++ resting) limit stopped.writes a b apart stopped.until stopped.written)
+    at_limit limit (inr left) = inr (record {
+      long = left.long;
+      files = bare_files names s.fractions apart (left.long.hand.replies ++ left.long.hand.last) a b left.written;
+    })
+
     pub hand_limit : (r : Result ⊤ HandError) (limit : Limit) → EndsHand r seal s names events a b
-        → r ≡ Err (hand.Limit limit) → HasStopped s names (events ++ resting) limit a b
+        → r ≡ Err (hand.Limit limit)
+        → HasStopped s names (events ++ resting) limit a b ⊎ IsTooLong seal s names events limit a b
     hand_limit r limit h is =
-        let stopped : StoppedThere s (beginning V) names (events ++ resting) limit a b =
-        subst (λ (x : Result ⊤ HandError). EndsHand x seal s names events a b) is h in
-        has_stopped s names (events ++ resting) limit stopped.writes a b apart stopped.until stopped.written
+        at_limit limit (subst (λ (x : Result ⊤ HandError). EndsHand x seal s names events a b) is h)
 
 -- the same events
 pub hand_same : {V : Type 0} (seal : Option (List ℕ)) (r : Result ⊤ HandError) (s : Setting V) (names : OutputNames)

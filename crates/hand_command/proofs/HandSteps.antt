@@ -21,15 +21,16 @@ use Rattle.output_files.specs.declared.error.OutputError.TheVariants as output
 use Rattle.output_files.specs.Writes.{Write, HasWritten, HasBegun, HasGathered}
 use Rattle.run_writes.specs.declared.error.RunError.{RunError}
 use Rattle.run_writes.specs.declared.error.RunError.TheVariants as run
-use Rattle.run_writes.specs.Errors.{run_error_of, run_result_of}
+use Rattle.run_writes.specs.Errors.{run_error_of}
 use Rattle.run_writes.specs.Replies.{Reply, AnswersFrom, Opens, Point, beginning, lines_in, released_in}
 use Rattle.run_writes.specs.Run.{OutputNames, FitsRecord, writes_of, WritesSomeFrom, WritesUntilFrom}
 use Rattle.run_writes.proofs.ScriptAnswers.{answers_perform, answers_then, released_join}
 use Rattle.run_command.specs.Running.{GoesOn, HasBegunSome, HasCome}
 use Rattle.run_command.proofs.Going.{some_longer, until_longer}
 use Rattle.hand_command.specs.Errors.{hand_error_of, hand_result_of}
-use Rattle.hand_command.specs.Hand.{HandsOver, HasBegunHand, WritesHandover, handed_text, image_writes, resting}
-use Rattle.hand_command.specs.Handing.{EndsHand, LeftUnready, WritesImage}
+use Rattle.hand_command.specs.Hand.{FitsFile, HandsOver, HasBegunHand, WritesHandover, handed_text, image_writes}
+use Rattle.hand_command.specs.Hand.{resting}
+use Rattle.hand_command.specs.Handing.{EndsHand, HasBegunImage, LeftUnready, WritesImage}
 use Rattle.hand_command.proofs.RestingWorlds.{RestingLaws}
 
 -- a first part of what the events and the last four write
@@ -43,11 +44,11 @@ pub failed_hand : (seal : Option (List ℕ)) (A : Type 0) {P V : Type 0} (m : Me
     (names : OutputNames) (events : List Event) (y : Systemed P V) (lines : List ℕ) (a b : Shown) (e : RunError)
     → GoesOn {A = A} (Err e) m s (beginning V) names events y lines a b
     → EndsHand (Err (hand_error_of e)) seal s names events a b
-failed_hand seal A {P} {V} m s names events y lines a b (run.Limit limit) h = record {
+failed_hand seal A {P} {V} m s names events y lines a b (run.Limit limit) h = inl (record {
   writes = h.writes;
   until = until_longer s (beginning V) names events resting limit h.writes h.until;
   written = h.written;
-}
+})
 failed_hand seal A {P} {V} m s names events y lines a b run.WriteFault h =
     some_hand seal s names events a b (some_longer s (beginning V) names events resting a b h)
 failed_hand seal A {P} {V} m s names events y lines a b run.NoMemory h =
@@ -114,11 +115,11 @@ module _ {P V : Type 0} (seal : Option (List ℕ)) (m : Meaning V) (s : Setting 
   pub stopped_behind : (z : Systemed P V) (more : List ℕ) (c : Shown) (e : RunError)
       → GoesOn {A = ⊤} (Err e) m s ready_point names resting z more a c
       → EndsHand (Err (hand_error_of e)) seal s names events a c
-  stopped_behind z more c (run.Limit limit) h = record {
+  stopped_behind z more c (run.Limit limit) h = inl (record {
     writes = h.writes;
     until = until_behind limit h.writes h.until;
     written = h.written;
-  }
+  })
   stopped_behind z more c run.WriteFault h = begun_behind c h
   stopped_behind z more c run.NoMemory h = begun_behind c h
 
@@ -162,9 +163,11 @@ module _ {P V : Type 0} (seal : Option (List ℕ)) (m : Meaning V) (s : Setting 
     replied = writes_of names s.fractions (come.replies ++ rest.replies)
 
     handover : (image : Image) → IsImageOf s rest.world image → FitsImage image
+        → FitsFile (handed_text seal s image) image
         → WritesHandover seal s names events
         (replied ++ image_writes names (handed_text seal s image) (done_line rest.world))
-    handover image is fits = record { hand = hands_over image is fits; writes_are = refl }
+    handover image is fits fits_file =
+        record { hand = hands_over image is fits; fits_file = fits_file; writes_are = refl }
 
     -- the image was not begun
     bare : (d : Shown) → HasBegun replied a d → HasBegunHand seal s names events a d
@@ -184,30 +187,31 @@ module _ {P V : Type 0} (seal : Option (List ℕ)) (m : Meaning V) (s : Setting 
     )
 
     -- the image is written, as far as it comes
-    pub image_goes : (r : Result ⊤ OutputError) (d : Shown) → WritesImage r seal s rest.world names replied a d
-        → EndsHand (hand_result_of (run_result_of r)) seal s names events a d
+    pub image_goes : (r : Result ⊤ RunError) (d : Shown) → WritesImage r seal s rest.world names replied a d
+        → EndsHand (hand_result_of r) seal s names events a d
     image_goes r d h = go r h
       where
-        stops : HasBegun replied a d
-            ⊎ ((image : Image) × IsImageOf s rest.world image × FitsImage image
-            × HasBegun (replied ++ image_writes names (handed_text seal s image) (done_line rest.world)) a d)
-            → HasBegunHand seal s names events a d
+        stops : HasBegunImage seal s rest.world names replied a d → HasBegunHand seal s names events a d
         stops (inl begun) = bare d begun
-        stops (inr (image, is, fits, begun)) = (
+        stops (inr (image, is, fits, fits_file, begun)) = (
           replied ++ image_writes names (handed_text seal s image) (done_line rest.world),
-          inr (inr (handover image is fits)),
+          inr (inr (handover image is fits fits_file)),
           begun,
         )
 
-        go : (r : Result ⊤ OutputError) → WritesImage r seal s rest.world names replied a d
-            → EndsHand (hand_result_of (run_result_of r)) seal s names events a d
-        go (Ok done) (image, is, fits, written) = (
+        go : (r : Result ⊤ RunError) → WritesImage r seal s rest.world names replied a d
+            → EndsHand (hand_result_of r) seal s names events a d
+        go (Ok done) (image, is, fits, fits_file, written) = (
           replied ++ image_writes names (handed_text seal s image) (done_line rest.world),
-          handover image is fits,
+          handover image is fits fits_file,
           written,
         )
-        go (Err output.WriteFault) h = stops h
-        go (Err output.NoMemory) h = stops h
+        go (Err (run.Limit limit)) (image, is, fits, passes, written) = inr (record {
+          long = record { hand = hands_over image is fits; passes = passes };
+          written = written;
+        })
+        go (Err run.WriteFault) h = stops h
+        go (Err run.NoMemory) h = stops h
 
   -- the system is not ready, and the lines that are gathered were written
   pub unready_goes : (unready : Unready) (c : Shown) → IsReadiness come.world (Err unready)

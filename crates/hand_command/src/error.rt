@@ -9,7 +9,8 @@ use run_writes::RunError;
 /// Why a system was not handed over.
 #[derive(Clone, Copy, PartialEq, Eq)]
 pub enum HandError {
-    /// The next move of a master would pass this limit, of moves or of bytes sent out.
+    /// The next move of a master would pass this limit, of moves or of bytes sent out; or the text of the image would,
+    /// of the bytes of a file or of its lines.
     Limit(Limit),
     /// An output could not be created or written.
     WriteFault,

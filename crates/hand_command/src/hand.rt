@@ -1,4 +1,5 @@
-ghost use Rattle.std.specs.Prelude.{◌≡◌, ◌<◌, ◌++◌, ◌-◌, ◌^◌, ℕ, List, [], Option, OnOk, IsErrOf};
+ghost use Rattle.std.specs.Prelude.{◌≡◌, ◌<◌, ◌++◌, ◌-◌, ◌^◌, ◌⊎◌, ℕ, List, [], Option, OnOk};
+ghost use Rattle.std.specs.Prelude.{IsErrOf};
 ghost use Rattle.std.specs.Prelude.{Err, false};
 ghost use Rattle.plain_text.specs.declared.limit.Limit.{Limit as LimitKind};
 ghost use Rattle.world_io.specs.World.{Start, WritingFailed};
@@ -8,7 +9,8 @@ ghost use Rattle.recovery_world.specs.World.{Setting, opening};
 ghost use Rattle.output_files.specs.Written.{WritesFiles};
 ghost use Rattle.run_writes.specs.Run.{CanRun, HasStopped, setting_of};
 ghost use Rattle.run_command.specs.Running.{IsSomewhere, IsSystemAt};
-ghost use Rattle.hand_command.specs.Hand.{HasBegunHand, HasHanded, IsNotReady, names_of, resting};
+ghost use Rattle.hand_command.specs.Hand.{HasBegunHand, HasHanded, IsNotReady, IsTooLong};
+ghost use Rattle.hand_command.specs.Hand.{names_of, resting};
 ghost use Rattle.hand_command.specs.Handing.{EndsHand};
 
 use crate::error::HandError;
@@ -70,7 +72,8 @@ fn hand_over<P: Program, W: World>(
 /// The released capture is created first and gets its header, and then the text of the image. After each event the
 /// records of what it released are written, and then its line of the report, as by `run_script`. Where the system is
 /// ready behind the last event, a snapshot is made and stored, the master crashes and a new one recovers, as by events
-/// of the script; then the image is written, and the last line. Where it is not, no image is written and no last line.
+/// of the script; then the image is written, and the last line. Where it is not, or where the text of the image would be
+/// larger than a file that is read may be, or have more lines, no image is written and no last line.
 /// Where the box is sealed, whose file has this digest, its seal is put in front of the image.
 pub fn run_hand<P: Program, W: World>(
     alloc: Global,
@@ -96,7 +99,9 @@ pub fn run_hand<P: Program, W: World>(
     ensures limit { (p : Start) → W.honest p world.new
         → (limit : LimitKind) → result ≡ Err (HandError.Limit limit)
         → HasStopped (setting_of (P.meaning program) run) (names_of files.entry)
-        (run.events ++ resting) limit (W.shows p world.old) (W.shows p world.new) }
+        (run.events ++ resting) limit (W.shows p world.old) (W.shows p world.new)
+        ⊎ IsTooLong seal (setting_of (P.meaning program) run) (names_of files.entry)
+        run.events limit (W.shows p world.old) (W.shows p world.new) }
     ensures in_order { (p : Start) → W.honest p world.new
         → HasBegunHand seal (setting_of (P.meaning program) run)
         (names_of files.entry) run.events (W.shows p world.old) (W.shows p world.new) }

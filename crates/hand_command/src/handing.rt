@@ -1,7 +1,8 @@
-ghost use Rattle.std.specs.Prelude.{◌≡◌, ◌≤◌, ℕ, List, Option, IfOk, OnOk, IsTrue, IsErrOf, Ok};
-ghost use Rattle.std.specs.Prelude.{false, length};
+ghost use Rattle.std.specs.Prelude.{◌≡◌, ◌≤◌, ◌↔◌, ℕ, List, Option, IfOk, OnOk, IsTrue, IsErrOf, Ok};
+ghost use Rattle.std.specs.Prelude.{IfNone, IfSome, false, length};
+ghost use Rattle.plain_text.specs.declared.limit.TheConstants.{MOST_EVENTS as most_lines};
 ghost use Rattle.world_io.specs.World.{Start, Shown, is_writable, WritingFailed};
-ghost use Rattle.handover.specs.Images.{FitsImage, image_text};
+ghost use Rattle.handover.specs.Images.{FitsImage, image_text, lines_of};
 ghost use Rattle.handover_seal.specs.Seals.{AreSeals, sealed_text};
 ghost use Rattle.handover_world.specs.Ready.{IsReadiness};
 ghost use Rattle.recovery_world.specs.declared.event.Event.{Event as EventKind};
@@ -13,6 +14,7 @@ ghost use Rattle.run_writes.specs.Replies.{beginning};
 ghost use Rattle.run_writes.specs.Run.{OutputNames, counts_line};
 ghost use Rattle.run_command.specs.Running.{HasCome, IsSomewhere};
 ghost use Rattle.hand_command.specs.Errors.{hand_result_of};
+ghost use Rattle.hand_command.specs.Hand.{FitsFile, PassesFile};
 ghost use Rattle.hand_command.specs.Handing.{EndsHand, WritesImage};
 
 use crate::error::{HandError, handed};
@@ -20,8 +22,8 @@ use box_program::Program;
 use handover::{Image, put_image};
 use handover_seal::{Seal, Seals, put_sealed};
 use handover_world::{reached_worlds_are_counted, ready_worlds_come_to_rest};
-use output_files::{OutputError, write_lines};
-use plain_text::{Bytes, NoMemory};
+use output_files::write_lines;
+use plain_text::{Bytes, Limit, MOST_EVENTS, MOST_FILE_BYTES, NoMemory};
 use recovery_world::Event;
 use run_command::{System, perform_events};
 use run_writes::{OutputFiles, RunError, put_done, write_closing, written};
@@ -49,7 +51,37 @@ fn put_texts(alloc: Global, seal: Option<Seal>, image: &Image) -> Result<HandTex
     Ok(HandTexts { image, last })
 }
 
-/// Writes the image of a system: the lines that are gathered, the text of the image, and the last line.
+/// Whether the text of an image has no more lines than one that is read may have.
+fn has_few_lines(image: &Image) -> bool
+    ensures { IsTrue result ↔ (length (lines_of image.now) ≤ most_lines) }
+{
+    let most = MOST_EVENTS as usize - 2;
+    let Some(room) = most.checked_sub(image.ended.len()) else {
+        return false;
+    };
+    match room.checked_sub(image.released.len()) {
+        Some(room) => image.past.len() <= room,
+        None => false,
+    }
+}
+
+/// The limit of files that a text of an image passes, if it passes one.
+fn passed_limit(text: &[u8], image: &Image) -> Option<Limit>
+    ensures passes { IfSome result (λ limit. PassesFile limit text.now image.now) }
+    ensures fits { IfNone result (FitsFile text.now image.now) }
+{
+    if text.len() as u64 > MOST_FILE_BYTES {
+        return Some(Limit::File);
+    }
+    if has_few_lines(image) {
+        None
+    } else {
+        Some(Limit::Events)
+    }
+}
+
+/// Writes the image of a system: the lines that are gathered, the text of the image, and the last line. Where that text
+/// would be larger than a file that is read may be, or have more lines, the lines that are gathered alone.
 fn write_image<P: Program, W: World>(
     alloc: Global,
     world: &mut W,
@@ -57,11 +89,11 @@ fn write_image<P: Program, W: World>(
     system: &System<P>,
     lines: &mut Bytes,
     seals: &Seals,
-) -> Result<(), OutputError>
+) -> Result<(), RunError>
     requires runs { system.now.stopped ≡ false }
     requires writable { IsTrue (is_writable (W.ledger world.old) file) }
     ensures only_writes { OnlyWrites W.ledger W.healthy world.old world.new }
-    ensures cause { IsErrOf result OutputError.WriteFault
+    ensures cause { IsErrOf result RunError.WriteFault
         → WritingFailed W.ledger W.healthy world.old world.new }
     ensures shows { (p : Start) → W.honest p world.new
         → (s : Setting P.Value) (seal : Option (List ℕ))
@@ -77,7 +109,12 @@ fn write_image<P: Program, W: World>(
     let image = system.image()?;
     let texts = put_texts(alloc, seals.after(image.fed), &image)?;
     let text = texts.image.as_slice();
-    write_closing(world, file, lines, text, texts.last.as_slice())
+    if let Some(limit) = passed_limit(text, &image) {
+        write_lines(world, lines)?;
+        return Err(RunError::Limit(limit));
+    }
+    let last = texts.last.as_slice();
+    written(write_closing(world, file, lines, text, last))
 }
 
 /// Brings a system to rest that is ready, and writes its image.
@@ -112,14 +149,7 @@ fn hand_ready<P: Program, W: World>(
     reached_worlds_are_counted::<P::Value>();
     let resting = [Event::Snap, Event::Store, Event::Crash, Event::Recover];
     perform_events(alloc, world, outputs.released, system, &resting, lines)?;
-    written(write_image(
-        alloc,
-        world,
-        outputs.schedule,
-        system,
-        lines,
-        seals,
-    ))
+    write_image(alloc, world, outputs.schedule, system, lines, seals)
 }
 
 /// Hands a system over whose events were all performed, if it is ready. If not, all that they leave is written.

@@ -1,5 +1,5 @@
 -- A hand-over that is done keeps the promise of the top call.
-use Rattle.std.proofs.Common.{◌<◌, ◌^◌, ℕ, List, ◌∷◌, ◌++◌, sym, ap, ◌∙◌, subst, Option, Some}
+use Rattle.std.proofs.Common.{◌<◌, ◌^◌, ℕ, List, ◌∷◌, ◌++◌, refl, sym, ap, ◌∙◌, subst, Option, Some}
 use Rattle.std.proofs.lemmas.List.Elements.{All-head, All-tail}
 use Rattle.plain_text.specs.declared.packet.Packet.{Packet}
 use Rattle.pcap_io.specs.Capture.{written}
@@ -17,7 +17,8 @@ use Rattle.handover_world.proofs.Resting.{rest_of_script}
 use Rattle.run_writes.specs.Replies.{Answers, lines_in}
 use Rattle.run_writes.specs.Run.{OutputNames}
 use Rattle.run_writes.proofs.ScriptAnswers.{answers_perform, answers_release, answers_then}
-use Rattle.hand_command.specs.Hand.{HandsOver, HasHanded, resting}
+use Rattle.hand_command.specs.Hand.{HandsOver, HasHanded, handed_text, resting}
+use Rattle.input_files.proofs.ImageVerdicts.{image_accepted}
 use Rattle.job_commands.specs.HandWords.{HandNames}
 use Rattle.job_commands.specs.Run.{setting_for}
 use Rattle.job_top.specs.Hand.{HandsWhole, hand_outputs}
@@ -53,13 +54,16 @@ pub hand_keeps : {V : Type 0} (seal : Option (List ℕ)) (s : Setting V) (names 
     (old new : Shown) → HasHanded seal s names events old new → KeepsHanded seal s names events new
 hand_keeps seal s names events old new r =
     let h = r.hand in
+    let text = handed_text seal s h.image in
     record {
       world = h.world;
       lines = lines_in (h.replies ++ h.last);
       performs = answers_perform s (events ++ resting) (h.replies ++ h.last) h.world (all s events h);
       image = h.image;
       handed = h.handed;
-      is_image = is_read s h.image seal h.fits_image;
+      is_accepted =
+          image_accepted text text h.image (is_read s h.image seal h.fits_image) r.fits_file.lines
+          (refl, r.fits_file.bytes);
       is_sealed = is_of_seal s h.image seal;
       no_fault = fine s events h;
       handover_written = r.files.schedule_is;

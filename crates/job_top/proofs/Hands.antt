@@ -13,7 +13,7 @@ use Rattle.run_writes.specs.Run.{HasStopped, OutputNames}
 use Rattle.run_writes.proofs.ScriptAnswers.{answers_perform}
 use Rattle.hand_command.specs.declared.error.HandError.{HandError}
 use Rattle.hand_command.specs.declared.error.HandError.TheVariants as hand_error
-use Rattle.hand_command.specs.Hand.{HasBegunHand, HasHanded, IsNotReady, handed_text, resting}
+use Rattle.hand_command.specs.Hand.{HasBegunHand, HasHanded, IsNotReady, IsTooLong, handed_text, resting}
 use Rattle.input_files.specs.Files.{KeepsOutputs}
 use Rattle.live_writes.proofs.ScriptSteps.{spare_cut, spared}
 use Rattle.job_commands.specs.declared.inputs.Inputs.{Inputs}
@@ -21,15 +21,17 @@ use Rattle.job_commands.specs.declared.status.Status.{Status}
 use Rattle.job_commands.specs.declared.status.Status.TheVariants as status
 use Rattle.job_commands.specs.Judging.{Judges}
 use Rattle.job_commands.specs.Run.{StopsRun, setting_for}
-use Rattle.job_commands.specs.Status.{AtInputs, AtOutputs, ComesAt, Completes, EndsReading, IsRefusal}
-use Rattle.job_commands.specs.Status.{stage_of, stage_of_limit}
+use Rattle.input_files.specs.Judging.{ScriptTooLarge}
+use Rattle.job_commands.specs.Status.{AtInputs, ComesAt, Completes, EndsReading, IsRefusal, stage_of}
+use Rattle.job_commands.specs.Turns.{FirstIsTooLarge}
 use Rattle.job_commands.specs.HandWords.{HandNames}
 use Rattle.job_commands.specs.Words.{run_of_hand}
 use Rattle.job_commands.proofs.OneVerdict.{inputs_one, run_completes}
-use Rattle.job_commands.proofs.Outcomes.{begun_writes_since, files_since, not_of_run}
+use Rattle.job_commands.proofs.Outcomes.{begun_writes_since, files_since, not_of_run, stopped_since}
 use Rattle.job_commands.proofs.RunLimits.{stops_are}
 use Rattle.job_top.specs.Hand.{AcceptsHandInputs, AreAcceptedForHand, HandsInOrder, HandsToLimit, HandsUnready}
-use Rattle.job_top.specs.Hand.{HandsWhole, JudgesHand, KeepsHandNames, StopsHand, hand_outcome, hand_outputs}
+use Rattle.job_top.specs.Hand.{HandsWhole, JudgesHand, KeepsHandNames, PassesLimit, StopsHand, hand_outcome}
+use Rattle.job_top.specs.Hand.{hand_outputs}
 use Rattle.job_top.proofs.SparedNames.{spare_hand}
 
 -- The files are as they were when the inputs had been read.
@@ -39,6 +41,7 @@ module _ (a b c : Shown) (keeps : KeepsOutputs a b) {V : Type 0} (seal : Option 
       → OnOk r (HasHanded seal s names events a c)
   handed_since (Ok done) r = record {
     hand = r.hand;
+    fits_file = r.fits_file;
     files =
         files_since a b c keeps names s.fractions (released_in (r.hand.replies ++ r.hand.last))
         (handed_text seal s r.hand.image) (lines_in (r.hand.replies ++ r.hand.last) ++ done_line r.hand.world) r.files;
@@ -56,10 +59,30 @@ module _ (a b c : Shown) (keeps : KeepsOutputs a b) {V : Type 0} (seal : Option 
     files = files_since a b c keeps names s.fractions (released_in r.replies) _ (lines_in r.replies) r.files;
   }
 
+  pub long_since : (limit : Limit) → IsTooLong seal s names events limit b c → IsTooLong seal s names events limit a c
+  long_since limit r = record {
+    long = r.long;
+    files =
+        files_since a b c keeps names s.fractions (released_in (r.long.hand.replies ++ r.long.hand.last)) _
+        (lines_in (r.long.hand.replies ++ r.long.hand.last)) r.files;
+  }
+
   pub order_handed : HasBegunHand seal s names events b c → HasBegunHand seal s names events a c
   order_handed (writes, is, begun) = (writes, is, begun_writes_since a b c keeps writes begun)
 
+pub limit_since : (a b c : Shown) → KeepsOutputs a b → (inputs : Inputs) (names : OutputNames) (limit : Limit)
+    → PassesLimit inputs names limit b c → PassesLimit inputs names limit a c
+limit_since a b c keeps inputs names limit (inl stopped) =
+    inl (stopped_since a b c keeps (setting_for inputs) names (inputs.events ++ resting) limit stopped)
+limit_since a b c keeps inputs names limit (inr long) =
+    inr (long_since a b c keeps inputs.conf.seal (setting_for inputs) names inputs.events limit long)
+
 -- The status of the hand-over, where its inputs are accepted.
+
+stops_so : (inputs : Inputs) (names : OutputNames) (limit : Limit) (a c : Shown) → PassesLimit inputs names limit a c
+    → StopsHand inputs limit
+stops_so inputs names limit a c (inl h) = inl (h.report, h.released, h.leaves)
+stops_so inputs names limit a c (inr h) = inr h.long
 
 module _ (healthy : Type 0) (names : HandNames) (inputs : Inputs) (a c : Shown)
     (accepted : AcceptsHandInputs names inputs a) where
@@ -74,13 +97,13 @@ module _ (healthy : Type 0) (names : HandNames) (inputs : Inputs) (a c : Shown)
   abbrev Stops : Result ⊤ HandError → Type 0
   Stops r =
       (limit : Limit) → r ≡ Err (hand_error.Limit limit)
-      → HasStopped (setting_for inputs) (hand_outputs names) (inputs.events ++ resting) limit a c
+      → PassesLimit inputs (hand_outputs names) limit a c
 
   pub hand_judged : (r : Result ⊤ HandError) → (healthy → ¬ IsErrOf r hand_error.WriteFault) → Leaves r
       → StaysUnready r → Stops r → JudgesHand healthy names (hand_outcome r) a
   hand_judged (Ok done) never whole unready limit = (inputs, accepted, whole.hand)
   hand_judged (Err (hand_error.Limit l)) never whole unready limit =
-      let h = limit l refl in inr (inputs, accepted, (h.report, h.released, h.leaves))
+      inr (inputs, accepted, stops_so inputs (hand_outputs names) l a c (limit l refl))
   hand_judged (Err hand_error.WriteFault) never whole unready limit = (λ ok. never ok refl, inputs, accepted)
   hand_judged (Err hand_error.NoMemory) never whole unready limit = tt
   hand_judged (Err (hand_error.Unready u)) never whole unready limit =
@@ -120,29 +143,33 @@ module _ (healthy : Type 0) (names : HandNames) (inputs : Inputs) (a c : Shown)
       → HandsToLimit names l a c
   hand_limit (Ok done) l e limit = absurd (cc)
   hand_limit (Err (hand_error.Limit k)) l e limit =
-      let same : k ≡ l = cc in (
+      let same : k ≡ l = cc in
+      inr (
         inputs,
         accepted,
-        subst
-            (λ (m : Limit).
-            HasStopped (setting_for inputs) (hand_outputs names) (inputs.events ++ resting) m a c)
-            same (limit k refl),
+        subst (λ (m : Limit). PassesLimit inputs (hand_outputs names) m a c) same (limit k refl),
       )
   hand_limit (Err hand_error.WriteFault) l e limit = absurd (cc)
   hand_limit (Err hand_error.NoMemory) l e limit = absurd (cc)
   hand_limit (Err (hand_error.Unready u)) l e limit = absurd (cc)
 
-  -- a hand-over never ends at its inputs
-  pub hand_not_at_inputs : (r : Result ⊤ HandError) → stage_of (hand_outcome r) ≡ AtInputs → Stops r → ⊥
-  hand_not_at_inputs (Ok done) e limit = cc
-  hand_not_at_inputs (Err (hand_error.Limit l)) e limit =
-      let at = (limit l refl).leaves in
-      let stage : stage_of_limit l ≡ AtOutputs =
-      stops_are (setting_for inputs) at.there at.event l at.world at.stops in
-      cc
-  hand_not_at_inputs (Err hand_error.WriteFault) e limit = cc
-  hand_not_at_inputs (Err hand_error.NoMemory) e limit = cc
-  hand_not_at_inputs (Err (hand_error.Unready u)) e limit = cc
+-- a hand-over never ends at its inputs but by a limit
+pub hand_not_at_inputs : (r : Result ⊤ HandError) → stage_of (hand_outcome r) ≡ AtInputs
+    → ((limit : Limit) → hand_outcome r ≡ status.TooLarge limit → ⊥) → ⊥
+hand_not_at_inputs (Ok done) e none = cc
+hand_not_at_inputs (Err (hand_error.Limit l)) e none = none l refl
+hand_not_at_inputs (Err hand_error.WriteFault) e none = cc
+hand_not_at_inputs (Err hand_error.NoMemory) e none = cc
+hand_not_at_inputs (Err (hand_error.Unready u)) e none = cc
+
+-- an input that passes a limit is the first that is not accepted
+pub first_too_large : (healthy : Type 0) (names : HandNames) (limit : Limit) (a : Shown)
+    → ComesAt AtInputs (status.TooLarge limit) → Judges healthy (run_of_hand names) (status.TooLarge limit) a
+    → FirstIsTooLarge names.box_file names.capture (ScriptTooLarge names.script limit a) limit a
+first_too_large healthy names limit a early (inl first) = first
+first_too_large healthy names limit a early (inr (inputs, accepted, (report, released, at))) =
+    absurd (not_of_run (status.TooLarge limit) limit refl
+    (stops_are (setting_for inputs) at.there at.event limit at.world at.stops) early)
 
 pub hand_words : (r : Result ⊤ HandError) → hand_outcome r ≡ status.BadWords → ⊥
 hand_words (Ok done) e = cc
@@ -187,14 +214,11 @@ hand_refused healthy names status.ReadFault a quiet early h = h
 hand_refused healthy names status.WriteFault a quiet early h = absurd quiet
 hand_refused healthy names status.NoMemory a quiet early h = tt
 hand_refused healthy names (status.BadInput fault) a quiet early h = h
-hand_refused healthy names (status.TooLarge limit) a quiet early (inl first) = inl first
-hand_refused healthy names (status.TooLarge limit) a quiet early (inr (inputs, accepted, (report, released, at))) =
-    absurd (not_of_run (status.TooLarge limit) limit refl
-    (stops_are (setting_for inputs) at.there at.event limit at.world at.stops) early)
+hand_refused healthy names (status.TooLarge limit) a quiet early h = inl (first_too_large healthy names limit a early h)
 
 -- An event that stops the run stops the hand-over.
 stops_longer : (inputs : Inputs) (limit : Limit) → StopsRun inputs limit → StopsHand inputs limit
-stops_longer inputs limit (report, released, at) = (
+stops_longer inputs limit (report, released, at) = inl (
   report,
   released,
   record {

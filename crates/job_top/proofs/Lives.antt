@@ -37,7 +37,7 @@ use Rattle.job_commands.proofs.LiveFiles.{live_pass}
 use Rattle.job_commands.proofs.Outcomes.{begun_since, begun_writes_since, run_since, stopped_since, files_since}
 use Rattle.job_top.specs.Commands.{Leaves}
 use Rattle.job_top.specs.Live.{EventsStop, JudgesLive, KeepsLiveNames, LivesFiles, LivesLimit, LivesOrder, SaysOfRun}
-use Rattle.job_top.specs.Live.{live_outputs, live_setting, live_stage}
+use Rattle.job_top.specs.Live.{live_outputs, live_setting, written_stage}
 
 -- The files are as they were when the inputs had been read.
 module _ (a b c : Shown) (keeps : KeepsOutputs a b) where
@@ -306,9 +306,9 @@ live_completes healthy names shown ok inputs a s h =
     go (inl none) = inl (inr none)
     go (inr says) = on s says
 
--- The stage at which a status of `live` comes.
+-- The stage at which a status of `live` or `hand` comes.
 
-pub at_inputs : (s : Status) → live_stage s ≡ AtInputs → stage_of s ≡ AtInputs
+pub at_inputs : (s : Status) → written_stage s ≡ AtInputs → stage_of s ≡ AtInputs
 at_inputs status.Done e = e
 at_inputs (status.Refuted refutation) e = e
 at_inputs status.BadWords e = e
@@ -319,7 +319,7 @@ at_inputs (status.BadInput fault) e = e
 at_inputs (status.TooLarge limit) e = absurd (cc)
 at_inputs (status.Unready unready) e = e
 
-pub no_limit_at_inputs : (s : Status) → live_stage s ≡ AtInputs → (limit : Limit) → s ≡ status.TooLarge limit → ⊥
+pub no_limit_at_inputs : (s : Status) → written_stage s ≡ AtInputs → (limit : Limit) → s ≡ status.TooLarge limit → ⊥
 no_limit_at_inputs s e limit is =
-    let other : AtInputs ≡ AtAnyTime = sym e ∙ ap live_stage is in
+    let other : AtInputs ≡ AtAnyTime = sym e ∙ ap written_stage is in
     cc

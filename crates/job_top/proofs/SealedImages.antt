@@ -43,14 +43,16 @@ counted n texts = filter (λ line. words_count (words_of line.1)) (enumerate_fro
 shifted : {S A : Type 0} (form : StagedForm S A) (texts : List (List ℕ)) (stage : S) (things : List A) (n m : ℕ)
     → Begins form stage (counted n texts) things [] → Begins form stage (counted m texts) things []
 shifted form [] stage things n m h = h
-shifted {S} {A} form (text ∷ texts) stage things n m = by (words_count (words_of text)) things
+shifted {S} {A} form (text ∷ texts) stage things n m =
+    by (λ s ts k l. shifted form texts s ts k l) (words_count (words_of text)) things
   where
-    by : (b : Bool) (things : List A)
+    by : ((s : S) (ts : List A) (k l : ℕ) → Begins form s (counted k texts) ts [] → Begins form s (counted l texts) ts [])
+        → (b : Bool) (things : List A)
         → Begins form stage (cond b ((n, text) ∷ counted (n + 1) texts) (counted (n + 1) texts)) things []
         → Begins form stage (cond b ((m, text) ∷ counted (m + 1) texts) (counted (m + 1) texts)) things []
-    by false things h = shifted form texts stage things (n + 1) (m + 1) h
-    by true [] h = absurd (cc)
-    by true (thing ∷ things) h = (h.0, shifted form texts (form.behind thing) things (n + 1) (m + 1) h.1)
+    by again false things h = again stage things (n + 1) (m + 1) h
+    by again true [] h = absurd (cc)
+    by again true (thing ∷ things) h = (h.0, again (form.behind thing) things (n + 1) (m + 1) h.1)
 
 later : (text : List ℕ) (image : Image) → IsImage text image → IsImage (10 ∷ text) image
 later text image is = record {

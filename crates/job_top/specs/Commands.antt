@@ -34,7 +34,7 @@ use Rattle.job_top.specs.Resume.{ResumesToLimit, ResumesWhole}
 use Rattle.job_top.specs.Trace.{AreAcceptedForTrace, JudgesTrace, KeepsTraceNames, TracesInOrder, TracesToLimit}
 use Rattle.job_top.specs.Trace.{TracesWhole}
 use Rattle.job_top.specs.Picture.{DrawsInOrder, DrawsToLimit, DrawsWhole, KeepsPictureNames}
-use Rattle.job_top.specs.Live.{JudgesLive, KeepsLiveNames, LivesFiles, LivesLimit, LivesOrder, live_stage}
+use Rattle.job_top.specs.Live.{JudgesLive, KeepsLiveNames, LivesFiles, LivesLimit, LivesOrder, written_stage}
 
 -- the outputs have all that the command gives, where the clock may answer these times
 abbrev pub Leaves : (ℕ → Type 0) → Asked → Shown → Shown → Type 0
@@ -51,8 +51,8 @@ Leaves may (Hands names) old new = HandsWhole names old new
 Leaves may (Resumes names) old new = ResumesWhole names old new
 
 -- What the command leaves that stopped at this limit. Of `run`, `drill`, `trace`, `picture`, `chain`, `hand` and
--- `resume` the limits of runs come once their inputs are accepted; of `live` those of files and events may, too; of no
--- other command one comes then.
+-- `resume` the limits of runs come once their inputs are accepted; of `live` and `hand` those of files and events may,
+-- too; of no other command one comes then.
 abbrev pub StopsAtLimit : Asked → Limit → Shown → Shown → Type 0
 StopsAtLimit (Runs names) limit old new = stage_of_limit limit ≡ AtOutputs → RunsToLimit names limit old new
 StopsAtLimit (Lives names) limit old new = LivesLimit names limit old new
@@ -63,7 +63,7 @@ StopsAtLimit (Drills names) limit old new = stage_of_limit limit ≡ AtOutputs �
 StopsAtLimit (Traces names) limit old new = stage_of_limit limit ≡ AtOutputs → TracesToLimit names limit old new
 StopsAtLimit (Draws names) limit old new = stage_of_limit limit ≡ AtOutputs → DrawsToLimit names limit old new
 StopsAtLimit (Chains names) limit old new = stage_of_limit limit ≡ AtOutputs → ChainsToLimit names limit old new
-StopsAtLimit (Hands names) limit old new = stage_of_limit limit ≡ AtOutputs → HandsToLimit names limit old new
+StopsAtLimit (Hands names) limit old new = HandsToLimit names limit old new
 StopsAtLimit (Resumes names) limit old new = stage_of_limit limit ≡ AtOutputs → ResumesToLimit names limit old new
 
 -- What the command leaves whose system can't be handed over yet, for this cause; only `hand` comes to that.
@@ -80,10 +80,10 @@ LeavesUnready (Chains names) unready old new = ⊥
 LeavesUnready (Hands names) unready old new = HandsUnready names unready old new
 LeavesUnready (Resumes names) unready old new = ⊥
 
--- the stage at which a status of the command comes; a limit of `live` may be passed at any time
+-- the stage at which a status of the command comes; a limit of `live` or `hand` may be passed at any time
 abbrev pub stage_in : Asked → Status → Stage
 stage_in (Runs names) status = stage_of status
-stage_in (Lives names) status = live_stage status
+stage_in (Lives names) status = written_stage status
 stage_in (Makes names) status = stage_of status
 stage_in (Plays names) status = stage_of status
 stage_in (Checks names) status = stage_of status
@@ -91,7 +91,7 @@ stage_in (Drills names) status = stage_of status
 stage_in (Traces names) status = stage_of status
 stage_in (Draws names) status = stage_of status
 stage_in (Chains names) status = stage_of status
-stage_in (Hands names) status = stage_of status
+stage_in (Hands names) status = written_stage status
 stage_in (Resumes names) status = stage_of status
 
 -- some first part of what the command gives was written, in its order

@@ -11,7 +11,7 @@ use Rattle.handover_world.specs.Ready.{IsReadiness}
 use Rattle.run_writes.specs.Run.{HasStopped, KeepsOthers, KeepsShown, OutputNames}
 use Rattle.hand_command.specs.declared.error.HandError.{HandError}
 use Rattle.hand_command.specs.declared.error.HandError.TheVariants as of_hand
-use Rattle.hand_command.specs.Hand.{HandsOver, HasBegunHand, HasHanded, IsNotReady, resting}
+use Rattle.hand_command.specs.Hand.{HandsOver, HasBegunHand, HasHanded, IsNotReady, IsTooLong, PassesText, resting}
 use Rattle.input_files.specs.Judging.{ScriptTooLarge}
 use Rattle.job_commands.specs.declared.inputs.Inputs.{Inputs}
 use Rattle.job_commands.specs.declared.status.Status.{Status}
@@ -54,9 +54,10 @@ EndsUnready inputs unready =
     × Performs (setting_for inputs) (opening (meaning_of inputs.conf.kind).value) inputs.events lines world
     × IsReadiness world (Err unready)
 
--- one of them, or of the four behind them, stops at this limit
+-- one of them, or of the four behind them, stops at this limit; or the text of the state would pass it
 abbrev pub StopsHand : Inputs → Limit → Type 0
-StopsHand inputs limit = StopsRun (with_rest inputs) limit
+StopsHand inputs limit =
+    StopsRun (with_rest inputs) limit ⊎ PassesText inputs.conf.seal (setting_for inputs) inputs.events limit
 
 -- What a status says: of the input files as of those of `run`, or of the hand-over.
 abbrev pub JudgesHand : Type 0 → HandNames → Status → Shown → Type 0
@@ -95,12 +96,21 @@ HandsUnready names unready old new =
     × AcceptsHandInputs names inputs old
     × IsNotReady (setting_for inputs) (hand_outputs names) inputs.events unready old new
 
--- an event stopped at this limit
+-- An event stopped at this limit; or the system came to rest, and the text of its state would pass it: there is no
+-- text of a handover.
+abbrev pub PassesLimit : Inputs → OutputNames → Limit → Shown → Shown → Type 0
+PassesLimit inputs names limit old new =
+    HasStopped (setting_for inputs) names (inputs.events ++ resting) limit old new
+    ⊎ IsTooLong inputs.conf.seal (setting_for inputs) names inputs.events limit old new
+
+-- nothing was written, and the first input that is not accepted passes the limit; or the hand-over passed it
 abbrev pub HandsToLimit : HandNames → Limit → Shown → Shown → Type 0
 HandsToLimit names limit old new =
-    (inputs : Inputs)
+    (KeepsShown old new
+    × FirstIsTooLarge names.box_file names.capture (ScriptTooLarge names.script limit old) limit old)
+    ⊎ ((inputs : Inputs)
     × AcceptsHandInputs names inputs old
-    × HasStopped (setting_for inputs) (hand_outputs names) (inputs.events ++ resting) limit old new
+    × PassesLimit inputs (hand_outputs names) limit old new)
 
 -- nothing was written, or some first part of what the hand-over writes, in its order, and nothing else
 abbrev pub HandsInOrder : HandNames → Shown → Shown → Type 0

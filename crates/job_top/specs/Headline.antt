@@ -12,9 +12,9 @@ use Rattle.recovery_world.specs.declared.event.Event.{Event}
 use Rattle.recovery_world.specs.World.{Setting, Sent, World as SystemWorld, opening, all_inputs}
 use Rattle.plain_text.specs.declared.packet.Packet.{Packet}
 use Rattle.handover.specs.declared.image.Image.{Image}
-use Rattle.handover.specs.Images.{IsImage}
-use Rattle.handover_seal.specs.Seals.{IsOfSeal, seal_after, unsealed}
+use Rattle.handover_seal.specs.Seals.{IsOfSeal, seal_after}
 use Rattle.handover_world.specs.Faults.{HasNoFault}
+use Rattle.input_files.specs.Answers.{SaysImage}
 use Rattle.hand_command.specs.Hand.{IsHandedOver, handed_text, resting}
 use Rattle.recovery_world.specs.Events.{IsAmong}
 use Rattle.recovery_world.specs.Files.{Performs, packets_of}
@@ -98,9 +98,13 @@ pub record KeepsChainPromise (names : ChainNames) (old new : Shown) : Type 0 whe
   pub accepted : AcceptsChainInputs names inputs old
   pub keeps : KeepsBothPromises (first_of inputs) (second_of inputs) (chain_outputs names) inputs.events new
 
+-- who reads a text of a handover accepts it as that of this image: neither its size nor its lines pass a limit
+abbrev pub IsTakenAs : List ℕ → Image → Type 0
+IsTakenAs text image = SaysImage text (Ok (record { text = text; image = image }))
+
 -- The events and four more lead to a world with nothing on the way. What it released is written, and the text of its
--- image, with the seal of the box and of the packets that were fed where the box is sealed. The image has no fault: a
--- new system can go on from there.
+-- image, with the seal of the box and of the packets that were fed where the box is sealed. Who reads the text accepts
+-- it, and the image has no fault: a new system can go on from there.
 pub record KeepsHanded {V : Type 0} (seal : Option (List ℕ)) (s : Setting V) (names : OutputNames) (events : List Event)
     (new : Shown) : Type 0 where
   pub world : SystemWorld V
@@ -108,7 +112,7 @@ pub record KeepsHanded {V : Type 0} (seal : Option (List ℕ)) (s : Setting V) (
   pub performs : Performs s (opening V) (events ++ resting) lines world
   pub image : Image
   pub handed : IsHandedOver s world image
-  pub is_image : IsImage (unsealed (handed_text seal s image)) image
+  pub is_accepted : IsTakenAs (handed_text seal s image) image
   pub is_sealed : IsOfSeal (seal_after seal s.fractions s.packets image.fed) (handed_text seal s image)
   pub no_fault : HasNoFault s image
   -- the written files: the text of the handover stands where a run has its schedule

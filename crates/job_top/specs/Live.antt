@@ -119,14 +119,14 @@ KeepsLiveNames names old new =
     (name : List ℕ) → ¬ (name ≡ names.released) → ¬ (name ≡ names.schedule) → ¬ (name ≡ names.script)
     → new.names name ≡ old.names name
 
--- the stage at which a status comes; a limit may be passed by an input, or by the run and its script
-abbrev pub live_stage : Status → Stage
-live_stage status.Done = AtOutputs
-live_stage (status.Refuted refutation) = AtInputs
-live_stage status.BadWords = AtWords
-live_stage status.ReadFault = AtInputs
-live_stage status.WriteFault = AtOutputs
-live_stage status.NoMemory = AtAnyTime
-live_stage (status.BadInput fault) = AtInputs
-live_stage (status.TooLarge limit) = AtAnyTime
-live_stage (status.Unready unready) = AtOutputs
+-- the stage at which a status comes; a limit may be passed by an input, or by the run and the text that it leaves
+abbrev pub written_stage : Status → Stage
+written_stage status.Done = AtOutputs
+written_stage (status.Refuted refutation) = AtInputs
+written_stage status.BadWords = AtWords
+written_stage status.ReadFault = AtInputs
+written_stage status.WriteFault = AtOutputs
+written_stage status.NoMemory = AtAnyTime
+written_stage (status.BadInput fault) = AtInputs
+written_stage (status.TooLarge limit) = AtAnyTime
+written_stage (status.Unready unready) = AtOutputs

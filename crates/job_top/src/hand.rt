@@ -1,19 +1,19 @@
-ghost use Rattle.std.specs.Prelude.{◌≡◌, ◌+◌, ◌<◌, ◌≤◌, ◌-◌, ◌^◌, ◌++◌, Err, OnOk, IsErrOf};
+ghost use Rattle.std.specs.Prelude.{◌≡◌, ◌+◌, ◌<◌, ◌≤◌, ◌-◌, ◌^◌, Err, OnOk, IsErrOf};
 ghost use Rattle.plain_text.specs.declared.limit.Limit.{Limit as LimitKind};
 ghost use Rattle.world_io.specs.Stream.{Rose};
 ghost use Rattle.world_io.specs.World.{Start, KeepsOrder, WritingFailed};
 ghost use Rattle.handover_world.specs.declared.unready.Unready.{Unready as UnreadyKind};
 ghost use Rattle.input_files.specs.Files.{OpensAll, OpensFirst};
 ghost use Rattle.output_files.specs.Written.{WritesFiles};
-ghost use Rattle.run_writes.specs.Run.{CanRun, HasStopped, KeepsShown};
-ghost use Rattle.hand_command.specs.Hand.{HasBegunHand, HasHanded, IsNotReady, resting};
+ghost use Rattle.run_writes.specs.Run.{CanRun, KeepsShown};
+ghost use Rattle.hand_command.specs.Hand.{HasBegunHand, HasHanded, IsNotReady};
 ghost use Rattle.job_commands.specs.Run.{script_of, setting_for};
-ghost use Rattle.job_commands.specs.Status.{AtInputs, AtOutputs, IsRefusal, stage_of};
-ghost use Rattle.job_commands.specs.Status.{stage_of_limit};
+ghost use Rattle.job_commands.specs.Status.{AtInputs, IsRefusal, stage_of};
 ghost use Rattle.job_commands.specs.HandWords.{hand_names_of};
 ghost use Rattle.job_commands.specs.Words.{hand_inputs};
 ghost use Rattle.job_top.specs.Hand.{HandsInOrder, HandsToLimit, HandsUnready, HandsWhole};
-ghost use Rattle.job_top.specs.Hand.{JudgesHand, hand_outputs, hand_outcome as hand_outcome_of};
+ghost use Rattle.job_top.specs.Hand.{JudgesHand, PassesLimit, hand_outputs};
+ghost use Rattle.job_top.specs.Hand.{hand_outcome as hand_outcome_of};
 ghost use Rattle.job_top.specs.Headline.{KeepsHandPromise};
 
 use box_conf::BoxKind;
@@ -54,9 +54,9 @@ fn hand_box<W: World>(
         (setting_for inputs) (hand_outputs (hand_names_of names.entry)) inputs.events
         unready (W.shows p world.old) (W.shows p world.new) }
     ensures limit { (p : Start) → W.honest p world.new → (limit : LimitKind)
-        → result ≡ Err (HandError.Limit limit) → HasStopped
-        (setting_for inputs) (hand_outputs (hand_names_of names.entry)) (inputs.events ++ resting)
-        limit (W.shows p world.old) (W.shows p world.new) }
+        → result ≡ Err (HandError.Limit limit) → PassesLimit
+        inputs (hand_outputs (hand_names_of names.entry)) limit
+        (W.shows p world.old) (W.shows p world.new) }
     ensures in_order { (p : Start) → W.honest p world.new → HasBegunHand
         inputs.conf.seal (setting_for inputs) (hand_outputs (hand_names_of names.entry))
         inputs.events (W.shows p world.old) (W.shows p world.new) }
@@ -99,13 +99,14 @@ pub(crate) fn hand<W: World>(alloc: Global, world: &mut W, names: HandWords<'_>)
         → result ≡ Status.Unready unready → HandsUnready
         (hand_names_of names.entry) unready (W.shows p world.old) (W.shows p world.new) }
     ensures limit { (p : Start) → W.honest p world.new → (limit : LimitKind)
-        → result ≡ Status.TooLarge limit → stage_of_limit limit ≡ AtOutputs → HandsToLimit
+        → result ≡ Status.TooLarge limit → HandsToLimit
         (hand_names_of names.entry) limit (W.shows p world.old) (W.shows p world.new) }
     ensures judged { (p : Start) → W.honest p world.new → JudgesHand (W.healthy world.old)
         (hand_names_of names.entry) result (W.shows p world.old) }
     ensures in_order { (p : Start) → W.honest p world.new → HandsInOrder
         (hand_names_of names.entry) (W.shows p world.old) (W.shows p world.new) }
     ensures refused { (p : Start) → W.honest p world.new → stage_of result ≡ AtInputs
+        → ((limit : LimitKind) → result ≡ Status.TooLarge limit → ⊥)
         → KeepsShown (W.shows p world.old) (W.shows p world.new) }
     ensures creates_nothing { IsRefusal result
         → (W.ledger world.new).created ≡ (W.ledger world.old).created }

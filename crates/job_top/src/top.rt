@@ -254,7 +254,8 @@ pub fn serial<W: World>(alloc: Global, words: &[Text], world: &mut W) -> Status
 /// the packets of the capture by the events of the script, as by `run`. Where the system is ready then, a snapshot is
 /// made and stored, the master crashes and a new one recovers, with lines of their own; HANDOVER is the text of the
 /// system's whole state, and the report has its last line. Where the system is not ready, the status says why, HANDOVER
-/// is empty, and there is no last line.
+/// is empty, and there is no last line. Nor is there where that text would be larger than a file that is read may be, or
+/// have more lines.
 ///
 /// `resume BOX CAPTURE HANDOVER SCRIPT RELEASED SCHEDULE`, six names of files of which the two outputs differ: a new
 /// system goes on from the state that HANDOVER is the text of, on the same box and capture, by the events of the

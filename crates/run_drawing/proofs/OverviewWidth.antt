@@ -1,9 +1,10 @@
 -- An overview is 1300 wide, and nothing in it reaches further to the right.
 use Rattle.std.proofs.Common.{◌≡◌, ℕ, zero, suc, ◌+◌, ◌-◌, ◌*◌, ◌/◌, ◌≤◌, Bool, true, false, List, [], ◌∷◌, ◌++◌}
-use Rattle.std.proofs.Common.{◌<◌, ap, arith, length-append}
-use Rattle.std.specs.Prelude.{All, max, min, if◌then◌else◌, ◌==◌, length, codes, decimal, None}
+use Rattle.std.proofs.Common.{◌<◌, ◌^◌, ap, arith, length-append, refl}
+use Rattle.std.specs.Prelude.{All, max, min, if◌then◌else◌, ◌==◌, nat_le, length, codes, decimal, None}
 use Rattle.std.proofs.lemmas.List.Elements.{All-append, All-cons, All-nil}
 use Rattle.std.proofs.lemmas.Fmt.{length-decimal-le}
+use Rattle.std.proofs.lemmas.Bool.{leb-true}
 use Rattle.svg_text.specs.declared.class.Class.{Class}
 use Rattle.svg_text.specs.declared.class.Class.TheVariants as class
 use Rattle.svg_text.specs.declared.drawing.Element.{Element}
@@ -15,14 +16,14 @@ use Rattle.run_drawing.specs.declared.samples.Count.{Count}
 use Rattle.run_drawing.specs.declared.samples.Count.TheVariants as count
 use Rattle.run_drawing.specs.declared.samples.Slice.{Slice}
 use Rattle.run_drawing.specs.Overview.{axis, axis_elements, bar_key, chart, curve, curve_keys, curves, epoch_line}
-use Rattle.run_drawing.specs.Overview.{epochs_from, key_of, line_key, most_from, other_keys, overview, points_from}
-use Rattle.run_drawing.specs.Overview.{samples_of}
+use Rattle.run_drawing.specs.Overview.{count_mark, counts_axis, epochs_from, event_mark, key_of, line_key, most_from}
+use Rattle.run_drawing.specs.Overview.{other_keys, overview, points_from, samples_of, scales}
 use Rattle.run_drawing.specs.Picture.{is_small, wide_of}
 use Rattle.run_drawing.specs.Places.{columns, left}
 use Rattle.run_drawing.specs.Promises.{furthest, reach}
 use Rattle.run_drawing.specs.Scales.{across, floor_of}
 use Rattle.run_drawing.specs.Slices.{bar_of, bars_of, floor_elements, floor_line, floors_from, floors_of, most_moves}
-use Rattle.run_drawing.specs.Slices.{slices_of, word_at}
+use Rattle.run_drawing.specs.Slices.{number_at, number_element, slices_of, word_at}
 
 pub overview_wide : (notes : List Note) → is_small notes ≡ false → wide_of notes ≡ 1300
 overview_wide notes large = ap (λ (b : Bool). if b then max 1300 (left (columns 0 notes) + 40) else 1300) large
@@ -75,13 +76,52 @@ epochs_fit many before (s ∷ samples) =
 axis_fits : All Fits axis_elements
 axis_fits = two_fit axis (word_at 1130 264 (codes "events")) (omega arith) (omega arith)
 
+nine_digits : (n : ℕ) → nat_le n 999999999 ≡ true → n < 10 ^ 9
+nine_digits n is = let low = leb-true n 999999999 is in omega (arith, low)
+
+below_64 : (n : ℕ) → nat_le n 999999999 ≡ true → n < 2 ^ 64
+below_64 n is = let low = leb-true n 999999999 is in omega (arith, low)
+
+number_fits : (x y n : ℕ) → x ≤ 1120 → All Fits (number_at x y n)
+number_fits x y n left = by (nat_le n 999999999) refl
+  where
+    by : (b : Bool) → nat_le n 999999999 ≡ b
+        → All Fits (if b then number_element x y n ∷ [] else [])
+    by true is =
+        let few : length (decimal n) ≤ 9 = length-decimal-le 9 n (omega arith) (nine_digits n is) (below_64 n is) in
+        one_fits (number_element x y n) (omega (arith, left, few))
+    by false is = All-nil Fits
+
+across_there : (many i : ℕ) → across many i ≤ 1120
+across_there many i = inside (min i 1000000000 * 1000 / max 1 many)
+  where
+    inside : (n : ℕ) → 120 + min n 1000 ≤ 1120
+    inside n = omega arith
+
+-- three numbers one after another
+three_fit : (a b c : List Element) → All Fits a → All Fits b → All Fits c → All Fits (a ++ b ++ c)
+three_fit a b c one two three = All-append Fits (a ++ b) c (All-append Fits a b one two) three
+
+scales_fit : (many most : ℕ) → All Fits (scales many most)
+scales_fit many most =
+    three_fit (counts_axis ∷ []) (count_mark most 0 ++ count_mark most (most / 2) ++ count_mark most most)
+    (event_mark many 0 ++ event_mark many (many / 2) ++ event_mark many many)
+    (one_fits counts_axis (omega arith))
+    (three_fit (count_mark most 0) (count_mark most (most / 2)) (count_mark most most)
+    (number_fits 100 _ 0 (omega arith)) (number_fits 100 _ (most / 2) (omega arith))
+    (number_fits 100 _ most (omega arith)))
+    (three_fit (event_mark many 0) (event_mark many (many / 2)) (event_mark many many)
+    (number_fits _ 272 0 (across_there many 0)) (number_fits _ 272 (many / 2) (across_there many (many / 2)))
+    (number_fits _ 272 many (across_there many many)))
+
 chart_fits : (notes : List Note) → All Fits (chart notes)
 chart_fits notes =
     let many = length notes in
+    let most = most_from 0 notes in
     let samples = samples_of notes in
-    All-append Fits (axis_elements ++ epochs_from many 1 samples) (curves many (most_from 0 notes) samples)
-    (All-append Fits axis_elements (epochs_from many 1 samples) axis_fits (epochs_fit many 1 samples))
-    (curves_fit many (most_from 0 notes) samples)
+    All-append Fits (axis_elements ++ scales many most ++ epochs_from many 1 samples) (curves many most samples)
+    (three_fit axis_elements (scales many most) (epochs_from many 1 samples) axis_fits (scales_fit many most)
+    (epochs_fit many 1 samples)) (curves_fit many most samples)
 
 -- The legend
 
@@ -137,9 +177,9 @@ word_fits t low =
 floor_fits : (most t : ℕ) (notes : List Note) → t < 1000 → All Fits (floor_elements most t notes)
 floor_fits most t notes low =
     let word = word_at 10 (floor_of t) (codes "thread " ++ decimal t) in
-    All-append Fits (word ∷ floor_line t ∷ []) (bars_of (length notes) most t (slices_of t notes))
-    (two_fit word (floor_line t) (word_fits t low) (omega arith))
-    (bars_fit (length notes) most t (slices_of t notes))
+    three_fit (word ∷ floor_line t ∷ []) (number_at 100 (floor_of t - 22) most)
+    (bars_of (length notes) most t (slices_of t notes)) (two_fit word (floor_line t) (word_fits t low) (omega arith))
+    (number_fits 100 (floor_of t - 22) most (omega arith)) (bars_fit (length notes) most t (slices_of t notes))
 
 floors_fit : (most t rest : ℕ) (notes : List Note) → t + rest ≤ 1000 → All Fits (floors_from most t rest notes)
 floors_fit most t zero notes low = All-nil Fits

@@ -1,7 +1,8 @@
 -- The overview of a long run: how many packets came in, how many outputs were released and how many wait, against the
--- number of events, at 200 of them at most; where an epoch began; and how many moves each thread made.
-use Rattle.std.specs.Prelude.{ℕ, ◌+◌, ◌/◌, ◌%◌, ◌==◌, max, if◌then◌else◌, List, [], ◌∷◌, ◌++◌, length}
-use Rattle.std.specs.Prelude.{None, Some, codes, decimal}
+-- number of events: at the opening, after 200 of the events at most, and after the last; where an epoch began; and how
+-- many moves each thread made. Scales tell the numbers.
+use Rattle.std.specs.Prelude.{ℕ, ◌+◌, ◌/◌, ◌%◌, ◌==◌, ◌||◌, max, nat_eq, if◌then◌else◌, List, [], ◌∷◌, ◌++◌}
+use Rattle.std.specs.Prelude.{None, Some, codes, decimal, length}
 use Rattle.svg_text.specs.declared.class.Class.{Class}
 use Rattle.svg_text.specs.declared.class.Class.TheVariants as class
 use Rattle.svg_text.specs.declared.drawing.Element.{Element}
@@ -13,7 +14,7 @@ use Rattle.run_drawing.specs.declared.samples.Sample.{Sample}
 use Rattle.run_drawing.specs.declared.samples.Count.{Count}
 use Rattle.run_drawing.specs.declared.samples.Count.TheVariants as count
 use Rattle.run_drawing.specs.Scales.{across, upwards}
-use Rattle.run_drawing.specs.Slices.{floors_of, word_at}
+use Rattle.run_drawing.specs.Slices.{floors_of, number_at, word_at}
 
 -- Samples
 
@@ -21,17 +22,22 @@ abbrev pub sample_of : ℕ → Note → Sample
 sample_of i n =
     record { index = i; fed = n.fed; released = n.released; waiting = n.waiting; epoch = n.epoch }
 
--- every so many notes one, where the first of these has this place
-abbrev pub samples_from : ℕ → ℕ → List Note → List Sample
-samples_from every i [] = []
-samples_from every i (n ∷ later) =
-    (if i % every == 0 then sample_of i n ∷ [] else []) ++ samples_from every (i + 1) later
+-- before any event
+abbrev pub first_sample : Sample
+first_sample = record { index = 0; fed = 0; released = 0; waiting = 0; epoch = 1 }
+
+-- after every so many events one, and one after the last of so many, where this number of them came before these
+abbrev pub samples_from : ℕ → ℕ → ℕ → List Note → List Sample
+samples_from every many i [] = []
+samples_from every many i (n ∷ later) =
+    (if nat_eq ((i + 1) % every) 0 || nat_eq (i + 1) many then sample_of (i + 1) n ∷ [] else [])
+    ++ samples_from every many (i + 1) later
 
 abbrev pub every_of : List Note → ℕ
 every_of notes = length notes / 200 + 1
 
 abbrev pub samples_of : List Note → List Sample
-samples_of notes = samples_from (every_of notes) 0 notes
+samples_of notes = first_sample ∷ samples_from (every_of notes) (length notes) 0 notes
 
 -- the greatest count
 abbrev pub most_from : ℕ → List Note → ℕ
@@ -91,6 +97,28 @@ axis = record {
 abbrev pub axis_elements : List Element
 axis_elements = axis ∷ word_at 1130 264 (codes "events") ∷ []
 
+-- Scales: at both ends and in the middle of an axis the number that stands there
+
+abbrev pub counts_axis : Element
+counts_axis = record {
+  class = class.Lane;
+  title = None;
+  shape = shape.Line (record { x = 120; y = 60 }) (record { x = 120; y = 260 });
+}
+
+-- beside the axis of counts, where the greatest is this
+abbrev pub count_mark : ℕ → ℕ → List Element
+count_mark most n = number_at 100 (upwards most n) n
+
+-- below that of events, of which there are so many
+abbrev pub event_mark : ℕ → ℕ → List Element
+event_mark many i = number_at (across many i) 272 i
+
+abbrev pub scales : ℕ → ℕ → List Element
+scales many most =
+    (counts_axis ∷ []) ++ (count_mark most 0 ++ count_mark most (most / 2) ++ count_mark most most)
+    ++ (event_mark many 0 ++ event_mark many (many / 2) ++ event_mark many many)
+
 -- a thing of the legend with its word
 unfoldable pub key_of : ℕ → Class → Shape → List ℕ → List Element
 key_of x c s word = (record { class = c; title = None; shape = s }) ∷ word_at (x + 24) 284 word ∷ []
@@ -118,7 +146,8 @@ curves many most samples =
     curve count.Fed many most samples ∷ curve count.Left many most samples ∷ curve count.Held many most samples ∷ []
 
 abbrev pub chart_of : ℕ → ℕ → List Sample → List Element
-chart_of many most samples = axis_elements ++ epochs_from many 1 samples ++ curves many most samples
+chart_of many most samples =
+    axis_elements ++ scales many most ++ epochs_from many 1 samples ++ curves many most samples
 
 abbrev pub chart : List Note → List Element
 chart notes = chart_of (length notes) (most_from 0 notes) (samples_of notes)

@@ -25,7 +25,7 @@ use Rattle.run_drawing.specs.declared.note.Note.{Note}
 use Rattle.run_drawing.specs.Marks.{access_before, arrow_from, entry_with, mark_of, move_title, shape_of}
 use Rattle.run_drawing.specs.Marks.{var_of}
 use Rattle.run_drawing.specs.Overview.{overview}
-use Rattle.run_drawing.specs.Places.{columns, entry_lane, in_cell, left, output_lane, top, width}
+use Rattle.run_drawing.specs.Places.{arrivals, columns, entry_lane, in_cell, left, output_lane, top, width}
 use Rattle.run_drawing.specs.Scales.{overview_high}
 
 -- Moves
@@ -148,8 +148,8 @@ abbrev pub event_elements : ℕ → Drawn → Note → List Note → List Elemen
 event_elements threads d n later =
     moves_from threads n.line (is_several n.outcome) (d.gone ++ drop n.kept d.earlier) later d.column
     (take n.kept d.earlier) n.made
-    ++ signs_of threads d.column n.line (sign_class n.event n.outcome)
-    ++ releases_from threads d.column n.line (d.released + 1) (n.released - d.released)
+    ++ signs_of threads (arrivals d.column n) n.line (sign_class n.event n.outcome)
+    ++ releases_from threads (arrivals d.column n) n.line (d.released + 1) (n.released - d.released)
 
 abbrev pub events_from : ℕ → Drawn → List Note → List Element
 events_from threads d [] = []

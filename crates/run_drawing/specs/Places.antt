@@ -23,10 +23,14 @@ entry_lane threads = threads
 abbrev pub output_lane : ℕ → ℕ
 output_lane threads = threads + 1
 
--- how many columns an event has, before which so many outputs were released: one for each move that is new and for each
--- output that it released, and at least one
+-- how many columns an event has, before which so many outputs were released: one for each move that is new, then one
+-- for each output that it released, and at least one
 abbrev pub width : ℕ → Note → ℕ
-width before n = max 1 (max (length n.made) (n.released - before))
+width before n = max 1 (length n.made + (n.released - before))
+
+-- what arrived with an event stands after its moves: from here on, where the event begins in this column
+abbrev pub arrivals : ℕ → Note → ℕ
+arrivals column n = column + length n.made
 
 -- and all of them
 abbrev pub columns : ℕ → List Note → ℕ

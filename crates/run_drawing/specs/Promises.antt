@@ -1,6 +1,6 @@
 -- What a picture shows of the moves and of the released outputs, in order; and how far its parts reach.
-use Rattle.std.specs.Prelude.{ℕ, zero, suc, ◌+◌, ◌-◌, ◌*◌, max, Bool, true, false, List, [], ◌∷◌, ◌++◌, filter, map}
-use Rattle.std.specs.Prelude.{codes, decimal, length}
+use Rattle.std.specs.Prelude.{ℕ, zero, suc, ◌+◌, ◌-◌, ◌*◌, ◌/◌, ◌||◌, max, min, Bool, true, false, List, []}
+use Rattle.std.specs.Prelude.{◌∷◌, ◌++◌, filter, map, codes, decimal, length}
 use Rattle.std.specs.Prelude.{Option, Some}
 use Rattle.std.specs.List.{flat_map}
 use Rattle.svg_text.specs.declared.class.Class.{Class}
@@ -50,6 +50,15 @@ release_titles before [] = []
 release_titles before (n ∷ later) =
     numbered_releases n.line (before + 1) (n.released - before) ++ release_titles n.released later
 
+-- what happened, in order: of each event first the moves that it made, and then the outputs that it released
+abbrev pub happened : ℕ → List Note → List (Option (List ℕ))
+happened before [] = []
+happened before (n ∷ later) =
+    (move_titles n ++ numbered_releases n.line (before + 1) (n.released - before)) ++ happened n.released later
+
+abbrev pub is_move_or_release : Class → Bool
+is_move_or_release c = is_move c || is_released c
+
 -- how far points are to the right
 abbrev pub furthest : List Point → ℕ
 furthest [] = 0
@@ -63,3 +72,27 @@ reach (shape.Circle middle radius) = middle.x + radius
 reach (shape.Polygon points) = furthest points
 reach (shape.Polyline points) = furthest points
 reach (shape.Words at words) = at.x + 8 * length words
+
+-- the point that is least far to the right
+abbrev pub nearest : List Point → ℕ
+nearest [] = 0
+nearest (p ∷ []) = p.x
+nearest (p ∷ q ∷ points) = min p.x (nearest (q ∷ points))
+
+-- the x of a shape: that of its middle; of words the one that they are set at
+abbrev pub place_of : Shape → ℕ
+place_of (shape.Line from to) = (from.x + to.x) / 2
+place_of (shape.Rectangle corner width height) = corner.x + width / 2
+place_of (shape.Circle middle radius) = middle.x
+place_of (shape.Polygon points) = (nearest points + furthest points) / 2
+place_of (shape.Polyline points) = (nearest points + furthest points) / 2
+place_of (shape.Words at words) = at.x
+
+-- all stands at a place but an arrow, which leads from one to another
+abbrev pub is_placed : Class → Bool
+is_placed class.Arrow = false
+is_placed _ = true
+
+-- the x of each mark, sign and number, in the order in which they are drawn
+abbrev pub places : List Element → List ℕ
+places elements = map (λ (e : Element). place_of e.shape) (filter (λ (e : Element). is_placed e.class) elements)

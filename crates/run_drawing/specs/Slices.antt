@@ -1,7 +1,7 @@
 -- How many moves each thread made, in an overview: the events are cut into at most 50 slices, and each thread has a bar
 -- for each of them.
-use Rattle.std.specs.Prelude.{ℕ, zero, suc, ◌+◌, ◌-◌, ◌/◌, nat_eq, max, List, [], ◌∷◌, ◌++◌, filter, map, length, take}
-use Rattle.std.specs.Prelude.{drop, None, Some, codes, decimal}
+use Rattle.std.specs.Prelude.{ℕ, zero, suc, ◌+◌, ◌-◌, ◌/◌, nat_eq, nat_le, if◌then◌else◌, max, List, [], ◌∷◌, ◌++◌}
+use Rattle.std.specs.Prelude.{drop, None, Some, codes, decimal, filter, map, length, take}
 use Rattle.svg_text.specs.declared.class.Class.TheVariants as class
 use Rattle.svg_text.specs.declared.drawing.Element.{Element}
 use Rattle.svg_text.specs.declared.drawing.Shape.TheVariants as shape
@@ -70,6 +70,14 @@ bars_of many most t (s ∷ slices) = bar_of many most t s ∷ bars_of many most 
 abbrev pub word_at : ℕ → ℕ → List ℕ → Element
 word_at x y words = record { class = class.Label; title = None; shape = shape.Words (record { x = x; y = y }) words }
 
+abbrev pub number_element : ℕ → ℕ → ℕ → Element
+number_element x y n =
+    record { class = class.Note; title = None; shape = shape.Words (record { x = x; y = y }) (decimal n) }
+
+-- a number at a place, the middle of it; it is left out where it has more than nine digits
+abbrev pub number_at : ℕ → ℕ → ℕ → List Element
+number_at x y n = if nat_le n 999999999 then number_element x y n ∷ [] else []
+
 abbrev pub floor_line : ℕ → Element
 floor_line t = record {
   class = class.Lane;
@@ -77,11 +85,11 @@ floor_line t = record {
   shape = shape.Line (record { x = 120; y = floor_of t }) (record { x = 1120; y = floor_of t });
 }
 
--- a thread, with its word and its bars
+-- a thread, with its word, its bars, and the number of moves of the tallest bar that there can be
 abbrev pub floor_elements : ℕ → ℕ → List Note → List Element
 floor_elements most t notes =
     (word_at 10 (floor_of t) (codes "thread " ++ decimal t) ∷ floor_line t ∷ [])
-    ++ bars_of (length notes) most t (slices_of t notes)
+    ++ number_at 100 (floor_of t - 22) most ++ bars_of (length notes) most t (slices_of t notes)
 
 -- so many threads, from this one on
 abbrev pub floors_from : ℕ → ℕ → ℕ → List Note → List Element

@@ -1,10 +1,10 @@
-ghost use Rattle.std.specs.Prelude.{◌≡◌, ◌++◌, ◌∷◌, [], IfOk, OnOk, codes, decimal};
+ghost use Rattle.std.specs.Prelude.{◌≡◌, ◌++◌, ◌∷◌, ◌-◌, [], IfOk, OnOk, codes, decimal};
 ghost use Rattle.run_drawing.specs.Slices.{bar_of, bar_title, bars_of, floor_elements, floor_line};
 ghost use Rattle.run_drawing.specs.Scales.{floor_of};
-ghost use Rattle.run_drawing.specs.Slices.{floors_from, floors_of, word_at};
+ghost use Rattle.run_drawing.specs.Slices.{floors_from, floors_of, number_at, word_at};
 
 use crate::Note;
-use crate::ground::words;
+use crate::ground::{put_number, words};
 use crate::marks::{put_named, put_two};
 use crate::places::advance;
 use crate::samples::Slice;
@@ -87,6 +87,14 @@ fn line_of(thread: u64) -> Element
     }
 }
 
+/// Appends the number of moves of the tallest bar that there can be.
+fn put_tallest(alloc: Global, out: &mut Elements, most: u64, thread: u64) -> Result<(), NoMemory>
+    ensures { OnOk result (out.new ≡ out.old ++ number_at 100 (floor_of thread - 22) most) }
+{
+    let y = floor(thread) - 22;
+    put_number(alloc, out, Point { x: 100, y }, most)
+}
+
 /// Appends a thread with its word and its bars.
 fn put_floor(
     alloc: Global,
@@ -99,6 +107,7 @@ fn put_floor(
 {
     out.push(word_of(alloc, thread)?)?;
     out.push(line_of(thread))?;
+    put_tallest(alloc, out, most, thread)?;
     let slices = take_slices(alloc, thread, notes)?;
     put_bars(
         alloc,

@@ -72,17 +72,26 @@ fn put_note(
         &mut state.earlier,
         note.made.as_slice(),
     )?;
+    let arrivals = advance(column, note.made.len() as u64)?;
     put_sign(
         alloc,
         out,
         threads,
-        column,
+        arrivals,
         line,
         sign_for(note.event, &note.outcome),
     )?;
     let many = note.released.saturating_sub(before);
-    put_releases(alloc, out, threads, column, line, advance(before, 1)?, many)?;
-    state.column = advance(column, width(before, note))?;
+    put_releases(
+        alloc,
+        out,
+        threads,
+        arrivals,
+        line,
+        advance(before, 1)?,
+        many,
+    )?;
+    state.column = advance(column, width(before, note)?)?;
     state.released = note.released;
     Ok(())
 }

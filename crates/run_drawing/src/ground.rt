@@ -2,21 +2,22 @@ ghost use Rattle.std.specs.Prelude.{◌≡◌, ◌++◌, ◌<◌, IfOk, OnOk, co
 ghost use Rattle.run_drawing.specs.Picture.{band_class as band_for, band_of, bands_from};
 ghost use Rattle.run_drawing.specs.Picture.{lane_elements, logger_lanes, thread_lanes, words_at};
 ghost use Rattle.run_drawing.specs.Places.{width as width_of};
+ghost use Rattle.run_drawing.specs.Slices.{number_at};
 
 use crate::Note;
 use crate::marks::put_named;
 use crate::places::{advance, in_cell, top};
-use plain_text::{Bytes, NoMemory};
+use plain_text::{Bytes, NoMemory, put_u64};
 use std::alloc::Global;
 use svg_text::{Class, Element, Elements, Point, Shape};
 
 /// How many columns an event has, before which so many outputs were released.
-pub fn width(before: u64, note: &Note) -> u64
-    ensures { result ≡ width_of before note.now }
+pub fn width(before: u64, note: &Note) -> Result<u64, NoMemory>
+    ensures { IfOk result (λ many. many ≡ width_of before note.now) }
 {
-    let made = note.made.len() as u64;
     let released = note.released.saturating_sub(before);
-    1u64.max(made.max(released))
+    let many = advance(note.made.len() as u64, released)?;
+    Ok(1u64.max(many))
 }
 
 /// The class of the ground of an epoch, where the master is up or down.
@@ -46,7 +47,7 @@ fn band(
 {
     let mut title = Bytes::new(alloc);
     put_named(&mut title, b"epoch ", u64::from(note.epoch))?;
-    let columns = width(before, note).min(10000) as u32;
+    let columns = width(before, note)?.min(10000) as u32;
     let lanes = (threads + 2).min(100) as u32;
     Ok(Element {
         class: band_class(note.up, note.epoch),
@@ -73,7 +74,7 @@ pub fn put_bands(
     let mut before = 0;
     for note in notes {
         out.push(band(alloc, threads, column, before, note)?)?;
-        column = advance(column, width(before, note))?;
+        column = advance(column, width(before, note)?)?;
         before = note.released;
     }
     Ok(())
@@ -91,6 +92,18 @@ pub fn words(alloc: Global, class: Class, at: Point, text: &[u8]) -> Result<Elem
             words: Bytes::of(alloc, text)?,
         },
     })
+}
+
+/// Appends a number at a place, unless it has more than nine digits.
+pub fn put_number(alloc: Global, out: &mut Elements, at: Point, number: u64) -> Result<(), NoMemory>
+    ensures { OnOk result (out.new ≡ out.old ++ number_at at.x at.y number) }
+{
+    if number > 999_999_999 {
+        return Ok(());
+    }
+    let mut digits = Bytes::new(alloc);
+    put_u64(&mut digits, number)?;
+    out.push(words(alloc, Class::Note, at, digits.as_slice())?)
 }
 
 /// Appends a lane with its word.

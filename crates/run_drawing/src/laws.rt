@@ -1,12 +1,14 @@
 //! Laws of the picture. Each is proved, and does nothing: a caller has it by the call.
 ghost use Rattle.std.specs.Prelude.{◌≡◌, ◌≤◌, ◌<◌, ℕ, All, List, false, length, sum};
 ghost use Rattle.std.specs.List.{flat_map};
+ghost use Rattle.std.specs.List.Sorted.{IsNonDecreasing};
 ghost use Rattle.svg_text.specs.declared.drawing.Element as element_of;
 ghost use Rattle.run_drawing.specs.Overview.{overview};
 ghost use Rattle.run_drawing.specs.Slices.{moves_in, moves_of, slices_of};
 ghost use Rattle.run_drawing.specs.Picture.{at_first, events_from, is_small, wide_of};
-ghost use Rattle.run_drawing.specs.Promises.{is_move, is_released, move_titles, release_titles};
-ghost use Rattle.run_drawing.specs.Promises.{reach, titles_where};
+ghost use Rattle.run_drawing.specs.Promises.{happened, is_move, is_move_or_release, is_released};
+ghost use Rattle.run_drawing.specs.Promises.{move_titles, places, reach, release_titles};
+ghost use Rattle.run_drawing.specs.Promises.{titles_where};
 ghost use Rattle.run_drawing.specs.declared.note.Note as note_of;
 
 /// The marks in the lanes are, in order, those of all moves that were made, each once.
@@ -19,6 +21,17 @@ pub fn every_move_has_one_mark()
 pub fn every_released_output_has_one_full_mark()
     ensures { (threads : ℕ) (notes : List note_of.Note)
         → titles_where is_released (events_from threads at_first notes) ≡ release_titles 0 notes }
+{}
+
+/// Time goes to the right: moves and releases are drawn in the order in which they happened, an output after all moves of
+/// the event that released it, and nothing but an arrow stands further left than what was drawn before it. So the x of a
+/// release is at least that of its `send`.
+pub fn no_release_stands_left_of_its_send()
+    ensures order { (threads : ℕ) (notes : List note_of.Note)
+        → titles_where is_move_or_release (events_from threads at_first notes)
+        ≡ happened 0 notes }
+    ensures to_the_right { (threads : ℕ) (notes : List note_of.Note)
+        → IsNonDecreasing (places (events_from threads at_first notes)) }
 {}
 
 /// An overview is 1300 wide, however long the run is, and nothing in it reaches further to the right.

@@ -21,7 +21,7 @@ mod slices;
 
 pub use laws::{
     an_overview_is_1300_wide, every_move_has_one_mark, every_released_output_has_one_full_mark,
-    slices_have_all_moves,
+    no_release_stands_left_of_its_send, slices_have_all_moves,
 };
 pub use note::{Cell, Movers, Note};
 pub use picture::put_picture;

@@ -1,12 +1,13 @@
-ghost use Rattle.std.specs.Prelude.{◌≡◌, ◌++◌, ◌≤◌, IfOk, OnOk};
+ghost use Rattle.std.specs.Prelude.{◌≡◌, ◌++◌, ◌∷◌, ◌≤◌, ◌/◌, [], IfOk, OnOk, length};
 ghost use Rattle.run_drawing.specs.Overview.{axis_elements, chart as chart_for, chart_of, counted};
-ghost use Rattle.run_drawing.specs.Overview.{count_class, curve, curves, epoch_line, epochs_from};
+ghost use Rattle.run_drawing.specs.Overview.{count_class, count_mark, counts_axis, curve, curves};
+ghost use Rattle.run_drawing.specs.Overview.{epoch_line, epochs_from, event_mark, first_sample};
 ghost use Rattle.run_drawing.specs.Overview.{most_from, overview, point_at, points_from};
-ghost use Rattle.run_drawing.specs.Overview.{samples_from};
+ghost use Rattle.run_drawing.specs.Overview.{sample_of, samples_from, scales};
 
 use crate::Note;
 use crate::bars::put_floors;
-use crate::ground::words;
+use crate::ground::{put_number, words};
 use crate::keys::put_keys;
 use crate::marks::put_named;
 use crate::samples::{Count, Sample};
@@ -15,22 +16,45 @@ use plain_text::{Bytes, NoMemory};
 use std::alloc::Global;
 use svg_text::{Class, Element, Elements, Point, Points, Shape};
 
-/// Every so many notes one.
+/// What stands before any event.
+fn first() -> Sample
+    ensures { result ≡ first_sample }
+{
+    Sample {
+        index: 0,
+        fed: 0,
+        released: 0,
+        waiting: 0,
+        epoch: 1,
+    }
+}
+
+/// What stands after the event of this number, from 1.
+fn sample(index: u64, note: &Note) -> Sample
+    ensures { result ≡ sample_of index note.now }
+{
+    Sample {
+        index,
+        fed: note.fed,
+        released: note.released,
+        waiting: note.waiting,
+        epoch: note.epoch,
+    }
+}
+
+/// One before any event, one after every so many events, and one after the last.
 fn take_samples(alloc: Global, every: u64, notes: &[Note]) -> Result<Vec<Sample>, NoMemory>
     requires { 1 ≤ every }
-    ensures { IfOk result (λ samples. samples.items ≡ samples_from every 0 notes.now) }
+    ensures { IfOk result (λ samples. samples.items
+        ≡ first_sample ∷ samples_from every (length notes.now) 0 notes.now) }
 {
+    let many = notes.len() as u64;
     let mut samples = Vec::new(alloc);
+    samples.push(first())?;
     for (index, note) in notes.iter().enumerate() {
-        let place = index as u64;
-        if place % every == 0 {
-            samples.push(Sample {
-                index: place,
-                fed: note.fed,
-                released: note.released,
-                waiting: note.waiting,
-                epoch: note.epoch,
-            })?;
+        let place = index as u64 + 1;
+        if place % every == 0 || place == many {
+            samples.push(sample(place, note))?;
         }
     }
     Ok(samples)
@@ -165,6 +189,65 @@ fn put_axis(alloc: Global, out: &mut Elements) -> Result<(), NoMemory>
     out.push(words(alloc, Class::Label, at, b"events")?)
 }
 
+/// Appends the axis of the counts.
+fn put_counts_axis(out: &mut Elements) -> Result<(), NoMemory>
+    ensures { OnOk result (out.new ≡ out.old ++ counts_axis ∷ []) }
+{
+    out.push(Element {
+        class: Class::Lane,
+        title: None,
+        shape: Shape::Line {
+            from: Point { x: 120, y: 60 },
+            to: Point { x: 120, y: 260 },
+        },
+    })
+}
+
+/// Appends a number beside the axis of the counts.
+fn put_count(alloc: Global, out: &mut Elements, most: u64, number: u64) -> Result<(), NoMemory>
+    ensures { OnOk result (out.new ≡ out.old ++ count_mark most number) }
+{
+    let y = upwards(most, number);
+    put_number(alloc, out, Point { x: 100, y }, number)
+}
+
+/// Appends a number below the axis of the events.
+fn put_place(alloc: Global, out: &mut Elements, many: u64, index: u64) -> Result<(), NoMemory>
+    ensures { OnOk result (out.new ≡ out.old ++ event_mark many index) }
+{
+    let x = across(many, index);
+    put_number(alloc, out, Point { x, y: 272 }, index)
+}
+
+/// Appends the numbers of the counts.
+fn put_count_scale(alloc: Global, out: &mut Elements, most: u64) -> Result<(), NoMemory>
+    ensures { OnOk result (out.new ≡ out.old
+        ++ (count_mark most 0 ++ count_mark most (most / 2) ++ count_mark most most)) }
+{
+    put_count(alloc, out, most, 0)?;
+    put_count(alloc, out, most, most / 2)?;
+    put_count(alloc, out, most, most)
+}
+
+/// Appends the numbers of the events.
+fn put_event_scale(alloc: Global, out: &mut Elements, many: u64) -> Result<(), NoMemory>
+    ensures { OnOk result (out.new ≡ out.old
+        ++ (event_mark many 0 ++ event_mark many (many / 2) ++ event_mark many many)) }
+{
+    put_place(alloc, out, many, 0)?;
+    put_place(alloc, out, many, many / 2)?;
+    put_place(alloc, out, many, many)
+}
+
+/// Appends the scales.
+fn put_scales(alloc: Global, out: &mut Elements, many: u64, most: u64) -> Result<(), NoMemory>
+    ensures { OnOk result (out.new ≡ out.old ++ scales many most) }
+{
+    put_counts_axis(out)?;
+    put_count_scale(alloc, out, most)?;
+    put_event_scale(alloc, out, many)
+}
+
 /// Appends the three curves.
 fn put_curves(
     alloc: Global,
@@ -191,6 +274,7 @@ fn put_sampled(
     ensures { OnOk result (out.new ≡ out.old ++ chart_of many most samples.now) }
 {
     put_axis(alloc, out)?;
+    put_scales(alloc, out, many, most)?;
     put_epochs(alloc, out, many, samples)?;
     put_curves(alloc, out, many, most, samples)
 }

@@ -25,7 +25,7 @@ fn count_columns(notes: &[Note]) -> Result<u64, NoMemory>
     let mut many = 0;
     let mut before = 0;
     for note in notes {
-        many = advance(many, width(before, note))?;
+        many = advance(many, width(before, note)?)?;
         before = note.released;
     }
     Ok(many)

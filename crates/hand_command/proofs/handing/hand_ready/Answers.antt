@@ -39,7 +39,7 @@ returns-clause-shows g c p h s seal are names events before released schedule co
     (ap g.P.Program.meaning (sym c.in_ok-perform_events.ensures.program)) rest.at in
     let counted = is_counted seal m s names events c.args.system.now c.args.lines.now before _ come laws ready
     c.perform_events.new.system c.perform_events.new.lines _ rest in
-    rw c.written.ensures (image_goes seal m s names events c.args.system.now c.args.lines.now before _ come laws ready
+    image_goes seal m s names events c.args.system.now c.args.lines.now before _ come laws ready
     c.perform_events.new.system c.perform_events.new.lines _ rest c.write_image.result _
     (c.write_image.ensures.shows p h s seal are rest.world names _ before
-    (c.in_ok-perform_events.ensures.keeps p h0 _ _ schedule) at.stands.parts counted.draws rest.gathered))
+    (c.in_ok-perform_events.ensures.keeps p h0 _ _ schedule) at.stands.parts counted.draws rest.gathered)

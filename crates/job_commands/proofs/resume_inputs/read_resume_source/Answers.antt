@@ -19,8 +19,12 @@ pub returns-in-Ok-Some-clause-judged : goal.returns-in-Ok-Some-clause-judged
 returns-in-Ok-Some-clause-judged g c p q =
     source_accepted (g.W.World.healthy c.args.world.now) (resume_names_of c.args.names)
     (g.W.World.shows p c.args.world.now) SealRefuses c.in-Ok.source _ (c.in-Ok.ensures.judged p q)
-    (inr (c.in-Ok-Some.fault, subst (λ (r : Option HandFault). IfSome r (HasSealFault c.in-Ok.source))
-    c.in-Ok-Some.field-0-is c.in-Ok-Some.ensures.refused, refl))
+    (inr (
+      c.in-Ok-Some.fault,
+      subst (λ (r : Option HandFault). IfSome r (HasSealFault c.in-Ok.source))
+          c.in-Ok-Some.field-0-is c.in-Ok-Some.ensures.refused,
+      refl,
+    ))
 
 pub returns-in-Err-seal_refusal-clause-judged : goal.returns-in-Err-seal_refusal-clause-judged
 returns-in-Err-seal_refusal-clause-judged g c p q =

@@ -1,18 +1,19 @@
-use Rattle.std.proofs.Common.{ap, sym, subst, ◌∙◌, ◌++◌, inl, inr}
+use Rattle.std.proofs.Common.{ap, sym, subst, ◌∙◌, inl, inr}
 use Rattle.input_files.proofs.OnlyReading.{OpensFirst-all}
 use Rattle.job_commands.specs.Run.{setting_for}
 use Rattle.job_commands.specs.declared.status.Status.{Status}
 use Rattle.job_commands.specs.HandWords.{hand_names_of}
-use Rattle.job_commands.specs.Status.{IsRefusal, stage_of}
-use Rattle.job_commands.proofs.Outcomes.{kept, not_of_run, stopped_since}
+use Rattle.job_commands.specs.Judging.{Judges}
+use Rattle.job_commands.specs.Status.{AtInputs, ComesAt, IsRefusal, stage_of}
+use Rattle.job_commands.specs.Words.{run_of_hand}
+use Rattle.job_commands.proofs.Outcomes.{kept}
 use Rattle.job_commands.proofs.Stages.{quiet_words, quiet_writing, quiet_done}
 use Rattle.job_commands.proofs.Failing.{failed_since}
-use Rattle.hand_command.specs.Hand.{resting}
 use Rattle.job_top.specs.Hand.{hand_outputs}
 use Rattle.job_top.proofs.HandPromise.{hand_promise}
-use Rattle.job_top.proofs.Hands.{hand_done, hand_fails, hand_judged, hand_limit, hand_not_at_inputs, hand_reads}
-use Rattle.job_top.proofs.Hands.{hand_refused, hand_refuses, hand_unready, hand_words, handed_since, order_handed}
-use Rattle.job_top.proofs.Hands.{quiet_unready, unready_since}
+use Rattle.job_top.proofs.Hands.{first_too_large, hand_done, hand_fails, hand_judged, hand_limit, hand_not_at_inputs}
+use Rattle.job_top.proofs.Hands.{hand_reads, hand_refused, hand_refuses, hand_unready, hand_words, handed_since}
+use Rattle.job_top.proofs.Hands.{limit_since, order_handed, quiet_unready, unready_since}
 use Rattle.job_top.proofs.hand.hand.Goals as goal
 
 -- its inputs are accepted
@@ -28,7 +29,7 @@ returns-in-Ok-clause-done g c p q done =
     let e = g.W.World.shows p c.hand_box.new.world in
     let accepted = c.in-Ok.ensures.judged p q1 in
     hand_done h names i a e accepted c.hand_box.result (sym c.hand_outcome.ensures ∙ done)
-    (handed_since a b e (c.in-Ok.ensures.keeps p q1) (setting_for i) (hand_outputs names) i.events
+    (handed_since a b e (c.in-Ok.ensures.keeps p q1) i.conf.seal (setting_for i) (hand_outputs names) i.events
     c.hand_box.result (c.hand_box.ensures.whole p q))
 
 pub returns-in-Ok-clause-headline : goal.returns-in-Ok-clause-headline
@@ -42,7 +43,7 @@ returns-in-Ok-clause-headline g c p q done =
     let e = g.W.World.shows p c.hand_box.new.world in
     let accepted = c.in-Ok.ensures.judged p q1 in
     hand_promise names a e (hand_done h names i a e accepted c.hand_box.result (sym c.hand_outcome.ensures ∙ done)
-    (handed_since a b e (c.in-Ok.ensures.keeps p q1) (setting_for i) (hand_outputs names) i.events
+    (handed_since a b e (c.in-Ok.ensures.keeps p q1) i.conf.seal (setting_for i) (hand_outputs names) i.events
     c.hand_box.result (c.hand_box.ensures.whole p q)))
 
 pub returns-in-Ok-clause-unready : goal.returns-in-Ok-clause-unready
@@ -56,11 +57,11 @@ returns-in-Ok-clause-unready g c p q u is-unready =
     let e = g.W.World.shows p c.hand_box.new.world in
     let accepted = c.in-Ok.ensures.judged p q1 in
     hand_unready h names i a e accepted c.hand_box.result u (sym c.hand_outcome.ensures ∙ is-unready)
-    (λ v is. unready_since a b e (c.in-Ok.ensures.keeps p q1) (setting_for i) (hand_outputs names) i.events v
+    (λ v is. unready_since a b e (c.in-Ok.ensures.keeps p q1) i.conf.seal (setting_for i) (hand_outputs names) i.events v
     (c.hand_box.ensures.unready p q v is))
 
 pub returns-in-Ok-clause-limit : goal.returns-in-Ok-clause-limit
-returns-in-Ok-clause-limit g c p q limit is-limit stage =
+returns-in-Ok-clause-limit g c p q limit is-limit =
     let q1 = c.hand_box.ensures.before p q in
     let i = c.in-Ok.inputs in
     let names = hand_names_of c.args.names in
@@ -70,8 +71,8 @@ returns-in-Ok-clause-limit g c p q limit is-limit stage =
     let e = g.W.World.shows p c.hand_box.new.world in
     let accepted = c.in-Ok.ensures.judged p q1 in
     hand_limit h names i a e accepted c.hand_box.result limit (sym c.hand_outcome.ensures ∙ is-limit)
-    (λ l is. stopped_since a b e (c.in-Ok.ensures.keeps p q1) (setting_for i) (hand_outputs names)
-    (i.events ++ resting) l (c.hand_box.ensures.limit p q l is))
+    (λ l is. limit_since a b e (c.in-Ok.ensures.keeps p q1) i (hand_outputs names) l
+    (c.hand_box.ensures.limit p q l is))
 
 pub returns-in-Ok-clause-judged : goal.returns-in-Ok-clause-judged
 returns-in-Ok-clause-judged g c p q =
@@ -86,12 +87,12 @@ returns-in-Ok-clause-judged g c p q =
     rw c.hand_outcome.ensures
     (hand_judged h names i a e accepted c.hand_box.result
     (λ ok fault. (c.hand_box.ensures.cause fault).not_healthy (c.in-Ok.ensures.only_reads.stays_healthy ok))
-    (handed_since a b e (c.in-Ok.ensures.keeps p q1) (setting_for i) (hand_outputs names) i.events
+    (handed_since a b e (c.in-Ok.ensures.keeps p q1) i.conf.seal (setting_for i) (hand_outputs names) i.events
     c.hand_box.result (c.hand_box.ensures.whole p q))
-    (λ v is. unready_since a b e (c.in-Ok.ensures.keeps p q1) (setting_for i) (hand_outputs names) i.events v
+    (λ v is. unready_since a b e (c.in-Ok.ensures.keeps p q1) i.conf.seal (setting_for i) (hand_outputs names) i.events v
     (c.hand_box.ensures.unready p q v is))
-    (λ l is. stopped_since a b e (c.in-Ok.ensures.keeps p q1) (setting_for i) (hand_outputs names)
-    (i.events ++ resting) l (c.hand_box.ensures.limit p q l is)))
+    (λ l is. limit_since a b e (c.in-Ok.ensures.keeps p q1) i (hand_outputs names) l
+    (c.hand_box.ensures.limit p q l is)))
 
 pub returns-in-Ok-clause-in_order : goal.returns-in-Ok-clause-in_order
 returns-in-Ok-clause-in_order g c p q =
@@ -105,24 +106,14 @@ returns-in-Ok-clause-in_order g c p q =
     inr (
       i,
       accepted,
-      order_handed a b e (c.in-Ok.ensures.keeps p q1) (setting_for i) (hand_outputs names) i.events
+      order_handed a b e (c.in-Ok.ensures.keeps p q1) i.conf.seal (setting_for i) (hand_outputs names) i.events
           (c.hand_box.ensures.in_order p q),
     )
 
 pub returns-in-Ok-clause-refused : goal.returns-in-Ok-clause-refused
-returns-in-Ok-clause-refused g c p q at =
-    let q1 = c.hand_box.ensures.before p q in
-    let i = c.in-Ok.inputs in
-    let names = hand_names_of c.args.names in
-    let h = g.W.World.healthy c.args.world.now in
-    let a = g.W.World.shows p c.args.world.now in
-    let b = g.W.World.shows p c.read_inputs.new.world in
-    let e = g.W.World.shows p c.hand_box.new.world in
-    let accepted = c.in-Ok.ensures.judged p q1 in
-    absurd (hand_not_at_inputs h names i a e accepted c.hand_box.result
-    (ap stage_of (sym c.hand_outcome.ensures) ∙ at)
-    (λ l is. stopped_since a b e (c.in-Ok.ensures.keeps p q1) (setting_for i) (hand_outputs names)
-    (i.events ++ resting) l (c.hand_box.ensures.limit p q l is)))
+returns-in-Ok-clause-refused g c p q at none =
+    absurd (hand_not_at_inputs c.hand_box.result (ap stage_of (sym c.hand_outcome.ensures) ∙ at)
+    (λ limit is. none limit (c.hand_outcome.ensures ∙ is)))
 
 pub returns-in-Ok-clause-creates_nothing : goal.returns-in-Ok-clause-creates_nothing
 returns-in-Ok-clause-creates_nothing g c e =
@@ -165,8 +156,16 @@ pub returns-in-Err-clause-unready : goal.returns-in-Err-clause-unready
 returns-in-Err-clause-unready g c p q u e = absurd (quiet_unready c.in-Err.status u e c.in-Err.ensures.quiet)
 
 pub returns-in-Err-clause-limit : goal.returns-in-Err-clause-limit
-returns-in-Err-clause-limit g c p q limit e stage =
-    absurd (not_of_run c.in-Err.status limit e stage (c.in-Err.ensures.stage p q))
+returns-in-Err-clause-limit g c p q limit e =
+    let h = g.W.World.healthy c.args.world.now in
+    let names = hand_names_of c.args.names in
+    let a = g.W.World.shows p c.args.world.now in
+    inl (
+      kept _ _ (c.in-Err.ensures.keeps p q),
+      first_too_large h names limit a
+          (subst (λ (s : Status). ComesAt AtInputs s) e (c.in-Err.ensures.stage p q))
+          (subst (λ (s : Status). Judges h (run_of_hand names) s a) e (c.in-Err.ensures.judged p q)),
+    )
 
 pub returns-in-Err-clause-judged : goal.returns-in-Err-clause-judged
 returns-in-Err-clause-judged g c p q =

@@ -17,6 +17,7 @@ use Rattle.job_commands.proofs.Others.{run_others, made_others, play_others, che
 use Rattle.job_top.proofs.Chains.{chain_completes, chain_others}
 use Rattle.job_top.proofs.Drills.{drill_completes, drill_others}
 use Rattle.job_top.proofs.Hands.{hand_completes, hand_others}
+use Rattle.job_top.proofs.Lives.{at_inputs, no_limit_at_inputs}
 use Rattle.job_top.proofs.Lives.{not_lives}
 use Rattle.job_top.proofs.NotUnready.{chain_ready, check_ready, drill_ready, make_ready, play_ready, resume_ready}
 use Rattle.job_top.proofs.NotUnready.{run_ready, trace_ready}
@@ -340,11 +341,12 @@ returns-in-Some-Hand-clause-completes g c ok p q =
 
 pub returns-in-Some-Hand-clause-refused : goal.returns-in-Some-Hand-clause-refused
 returns-in-Some-Hand-clause-refused g c p q =
-    rw (c.in-Some-Hand.ensures, c.in-Some-Hand.field-0-is) (λ e. c.hand.ensures.refused p q e)
+    rw (c.in-Some-Hand.ensures, c.in-Some-Hand.field-0-is)
+    (λ e. c.hand.ensures.refused p q (at_inputs c.hand.result e) (no_limit_at_inputs c.hand.result e))
 
 pub returns-in-Some-Hand-clause-limit : goal.returns-in-Some-Hand-clause-limit
 returns-in-Some-Hand-clause-limit g c p q limit e =
-    rw (c.in-Some-Hand.ensures, c.in-Some-Hand.field-0-is) (λ stage. c.hand.ensures.limit p q limit e stage)
+    rw (c.in-Some-Hand.ensures, c.in-Some-Hand.field-0-is) (c.hand.ensures.limit p q limit e)
 
 pub returns-in-Some-Hand-clause-others : goal.returns-in-Some-Hand-clause-others
 returns-in-Some-Hand-clause-others g c p q =
