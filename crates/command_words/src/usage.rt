@@ -185,7 +185,8 @@ pub fn help(alloc: Global) -> Result<Text, NoMemory>
     ensures { IfOk result (λ text. text ≡ whole_help) }
 {
     let parts = [
-        RUN, LIVE, DRILL, TRACE, PICTURE, CHAIN, HAND, RESUME, TAP, PLAY, CHECK, MAKE, WATCH, GENERAL,
+        RUN, LIVE, DRILL, TRACE, PICTURE, CHAIN, HAND, RESUME, TAP, PLAY, CHECK, MAKE, WATCH,
+        GENERAL,
     ];
     let text = parts.join(alloc, "\n")?;
     Text::of(alloc, text.as_str())
