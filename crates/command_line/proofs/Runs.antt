@@ -25,7 +25,7 @@ begins words pairs asks = asks.taps 0 (let some = asks.some in omega (arith, som
 
 -- a test of words that ask for a text
 pub is_asked : (b : Bool) (Not : Type 0) → b ≡ true → (Not → b ≡ false) → Not → ⊥
-is_asked b Not yes no not = let never : true ≡ false = sym yes ∙ no not in cc
+is_asked b Not holds fails none = let never : true ≡ false = sym holds ∙ fails none in cc
 
 -- words that ask for a text are two at most
 few : (words : List (List ℕ)) → asked_text words ≢ None → length words ≤ 2
@@ -117,7 +117,7 @@ module _ {W X : Type 0} (honest : Start → W → Type 0) (shows : Start → W �
       runs-plain no_text no_tap = record {
         bad_words = λ bad. either (AreBad words) (begins_watch words)
             (λ watch.
-            let asks = record { no_text = no_text; no_tap = no_tap; watch = watch } in
+            let asks : AsksToWatch words = record { no_text = no_text; no_tap = no_tap; watch = watch } in
             inr (inr (inl (asks, (watches watch).bad_words bad))))
             (λ plain.
             let none = (performs plain).bad_words bad in
