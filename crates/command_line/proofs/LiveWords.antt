@@ -1,4 +1,4 @@
--- Words of `live`: they are a command, and no capture is watched. And what is promised of words that ask for no rounds
+-- Words of `live`: no capture is watched, and no text printed. And what is promised of words that ask for no rounds
 -- holds whatever a clock may answer.
 use Rattle.std.proofs.Common.{◌≡◌, ◌⊎◌, ℕ, List, [], ◌∷◌, Bool, true, false, Option, None, Some, ap, inl, inr, refl}
 use Rattle.std.proofs.Common.{subst}
@@ -13,12 +13,10 @@ use Rattle.job_top.specs.Answers.{Answers, AnswersBytes}
 use Rattle.job_top.proofs.Lives.{leaves_any}
 use Rattle.release_taps.specs.Split.{AsksForTaps, behind_pairs}
 use Rattle.command_line.specs.Performing.{Performs, PerformsIn}
-use Rattle.command_line.specs.Running.{AsksNoRounds, AsksPlainly, IsNotBegun, Runs}
+use Rattle.command_line.specs.Running.{AsksNoRounds, AsksToPerform, IsNotBegun, Runs}
 use Rattle.command_line.proofs.NoCommand.{prints_nothing}
-use Rattle.command_words.specs.Printing.{asked_text, text_for}
-use Rattle.command_words.specs.Request.{request_of}
-use Rattle.command_words.specs.declared.request.Request.{Request}
-use Rattle.command_words.specs.declared.request.Request.TheVariants.{Command}
+use Rattle.command_line.proofs.Runs.{text_no_taps}
+use Rattle.command_words.specs.Printing.{asked_text}
 use Rattle.command_words.specs.Watching.{begins_watch}
 
 -- Words of `live`
@@ -29,11 +27,18 @@ pub none_read : {T : Type 0} (read : Option T) (Nothing : Type 0) (Something : T
 none_read None Nothing Something said none = said
 none_read (Some x) Nothing Something said none = absurd (let never : true ≡ false = none in cc)
 
-pub is_command : (words : List (List ℕ)) → ¬ (live_names words ≡ None) → request_of words ≡ Command
-is_command [] lives = absurd (lives refl)
-is_command (a ∷ []) lives = absurd (lives refl)
-is_command (a ∷ b ∷ []) lives = absurd (lives refl)
-is_command (a ∷ b ∷ c ∷ more) lives = refl
+-- words that ask for a text do not ask for `live`
+pub text_no_live : (words : List (List ℕ)) → ¬ (asked_text words ≡ None) → live_names words ≡ None
+text_no_live [] text = refl
+text_no_live (a ∷ []) text = refl
+text_no_live (a ∷ b ∷ []) text = refl
+text_no_live (a ∷ b ∷ c ∷ more) text = absurd (text refl)
+
+pub text_no_rounds : (words : List (List ℕ)) → ¬ (asked_text words ≡ None) → AsksNoRounds words
+text_no_rounds words text = record {
+  plain = λ no_tap. text_no_live words text;
+  tapped = λ pairs asks. absurd (text_no_taps words text pairs asks);
+}
 
 not_watch : (command : List ℕ) (names : LiveNames) → ¬ (live_with command names ≡ None)
     → bytes_eq command (codes "watch") ≡ true → ⊥
@@ -62,14 +67,14 @@ never_watch (a ∷ b ∷ c ∷ d ∷ e ∷ f ∷ g ∷ h ∷ more) lives watch =
 module _ {W : Type 0} (honest : Start → W → Type 0) (shows : Start → W → Shown) (ledger : W → Ledger)
     (healthy : W → Type 0) (may : ℕ → Type 0) (words : List (List ℕ)) (status : Status) (old new : W) where
   -- words of a command that were performed by the top call
-  pub raced : request_of words ≡ Command → Answers honest shows ledger healthy may words status old new
+  pub raced : asked_text words ≡ None → Answers honest shows ledger healthy may words status old new
       → PerformsIn honest shows ledger healthy may words status old new
   raced is answers = record {
     bytes = λ p h. record {
       prints = prints_nothing words status (shows p old) (shows p new) is;
       answers = answers.bytes p h;
     };
-    bad_words = λ bad. (answers.bad_words.0 bad, ap text_for is);
+    bad_words = λ bad. (answers.bad_words.0 bad, is);
     nothing_asked = answers.nothing_asked;
     creates_nothing = answers.creates_nothing;
     never_fails = answers.never_fails;
@@ -147,12 +152,16 @@ module _ {W X : Type 0} (honest : Start → W → Type 0) (shows : Start → W �
   runs-any no_rounds said = record {
     bad_words = said.bad_words;
     nothing_asked = said.nothing_asked;
-    performs = λ asks. any_performed (no_rounds.plain asks.no_tap) (said.performs asks);
+    performs = λ asks. any_performed (no_live asks) (said.performs asks);
     watches = said.watches;
     taps = λ pairs asks. go pairs (no_rounds.tapped pairs asks) (said.taps pairs asks);
     before = said.before;
   }
     where
+      no_live : AsksToPerform words → live_names words ≡ None
+      no_live (inl text) = text_no_live words text
+      no_live (inr plain) = no_rounds.plain plain.no_tap
+
       go : (pairs : ℕ) → live_names (behind_pairs pairs words) ≡ None
           → IsNotBegun faults refused status old new
           ⊎ Answers honest shows ledger healthy (λ t. ⊥) (behind_pairs pairs words) status old new

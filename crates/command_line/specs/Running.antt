@@ -1,6 +1,6 @@
 -- What the program comes to, from the world that it was given to the one that it leaves.
-use Rattle.std.specs.Prelude.{◌≡◌, ◌⊎◌, ℕ, ◌+◌, ◌*◌, ◌<◌, true, false, List, [], length, Option, None, Some, IfSome}
-use Rattle.std.specs.Prelude.{slice_get}
+use Rattle.std.specs.Prelude.{◌≡◌, ◌≢◌, ◌⊎◌, ℕ, ◌+◌, ◌*◌, ◌<◌, true, false, List, [], length, Option, None, Some}
+use Rattle.std.specs.Prelude.{IfSome, slice_get}
 use Rattle.world_io.specs.World.{Start, Shown, Ledger}
 use Rattle.world_told.specs.Events.{Event, shown_after}
 use Rattle.world_told.specs.Honest.{IsHonest}
@@ -34,14 +34,19 @@ pub record AsksPlainly (words : List (List ℕ)) : Type 0 where
   pub no_tap : ¬ BeginsWithTap words
   pub no_watch : begins_watch words ≡ false
 
+-- the words ask for a text, or for no tap and not for a capture to be watched
+abbrev pub AsksToPerform : List (List ℕ) → Type 0
+AsksToPerform words = (asked_text words ≢ None) ⊎ AsksPlainly words
+
 -- the words ask for a capture to be watched
 pub record AsksToWatch (words : List (List ℕ)) : Type 0 where
+  pub no_text : asked_text words ≡ None
   pub no_tap : ¬ BeginsWithTap words
   pub watch : begins_watch words ≡ true
 
--- the first word is `tap`, and the words ask for no taps
+-- the first word is `tap`, and the words ask for no taps, and for no text
 abbrev pub AskForNoTaps : List (List ℕ) → Type 0
-AskForNoTaps words = BeginsWithTap words × ((pairs : ℕ) → ¬ AsksForTaps words pairs)
+AskForNoTaps words = BeginsWithTap words × ((pairs : ℕ) → ¬ AsksForTaps words pairs) × (asked_text words ≡ None)
 
 -- the words ask for taps, and those after the pairs for no command
 abbrev pub AskForNoRun : List (List ℕ) → Type 0
@@ -80,7 +85,7 @@ pub record Runs {W X : Type 0} (honest : Start → W → Type 0) (shows : Start 
   pub nothing_asked : status ≡ BadWords → new ≡ old
   -- all that the top call promises, and that a text is printed; or what watching promises; or, with taps in front, all
   -- that the top call promises of the words after them
-  pub performs : AsksPlainly words → PerformsIn honest shows ledger healthy may words status old new
+  pub performs : AsksToPerform words → PerformsIn honest shows ledger healthy may words status old new
   pub watches : AsksToWatch words → WatchesIn honest shows ledger healthy words status old new printed
   pub taps : (pairs : ℕ) → AsksForTaps words pairs → IsNotBegun faults refused status old new
       ⊎ Answers honest shows ledger healthy may (behind_pairs pairs words) status old new
@@ -121,7 +126,7 @@ pub record RunsFiles {X : Type 0} (may : ℕ → Type 0) (faults : X → ℕ) (r
     (status : Status) (calls : List Event) : Type 0 where
   pub bad_words : status ≡ BadWords → AreBad words
   pub nothing_asked : status ≡ BadWords → calls ≡ []
-  pub performs : AsksPlainly words → (p : Start) → IsHonest p calls
+  pub performs : AsksToPerform words → (p : Start) → IsHonest p calls
       → Performs ⊥ may words status (shown_after p []) (shown_after p calls)
   pub watches : AsksToWatch words → (p : Start) → IsHonest p calls
       → Watches ⊥ words status (shown_after p [])

@@ -7,7 +7,7 @@ ghost use Rattle.command_line.specs.Performing.{Performs};
 ghost use Rattle.command_words.specs.Printing.{Prints, asked_text};
 ghost use Rattle.world_io.specs.World.{Start, KeepsOrder, WritingFailed};
 
-use command_words::{Request, help, read_request, version};
+use command_words::read_text;
 use job_commands::Status;
 use job_top::serial;
 use output_files::{OutputError, report};
@@ -36,8 +36,8 @@ fn print<W: World>(world: &mut W, text: &str) -> Status
     }
 }
 
-/// Does what the words ask for: prints the help or the version where the one and only word is
-/// `--help` or `--version`, and else runs the command that they name, which is not `live`.
+/// Does what the words ask for: prints the text that they ask for, as `--help` and `--version` do, and
+/// else runs the command that they name, which is not `live`.
 pub fn perform<W: World>(alloc: Global, words: &[Text], world: &mut W) -> Status
     requires room { (W.ledger world.old).given < 2 ^ 31 }
     requires no_rounds { live_names words.now ≡ None }
@@ -66,9 +66,12 @@ pub fn perform<W: World>(alloc: Global, words: &[Text], world: &mut W) -> Status
         → WritingFailed W.ledger W.healthy world.old world.new }
     ensures before { (p : Start) → W.honest p world.new → W.honest p world.old }
 {
-    match read_request(words) {
-        Request::Help => print(world, help()),
-        Request::Version => print(world, version()),
-        Request::Command => serial(alloc, words, world),
+    let text = match read_text(alloc, words) {
+        Ok(text) => text,
+        Err(_) => return Status::NoMemory,
+    };
+    match text {
+        Some(text) => print(world, text.as_str()),
+        None => serial(alloc, words, world),
     }
 }

@@ -12,8 +12,9 @@ ghost use Rattle.world_real.specs.Real.{real_ledger};
 ghost use Rattle.world_told.specs.Sent.{name_of, sent_to};
 
 use crate::racing::run_racing;
-use crate::running::run_serial;
+use crate::running::{run_alone, run_serial};
 use crate::{Ran, RealTap, SilentWorld};
+use command_words::asks_text;
 use job_commands::{Status, read_live_words};
 use plain_text::Text;
 use release_taps::{Split, run_line, split_taps};
@@ -26,7 +27,7 @@ use world_io::{Clock, World};
 /// Does what the words ask for over the files of a world: performs them; or, where pairs
 /// `tap NAME` stand in front, runs what stands after them and mirrors the released capture under
 /// each name; or, where the first word is `watch`, prints a line for each packet of a window on the
-/// report of the other world.
+/// report of the other world. Words that ask for a text, as `tap --help`, are performed first of all.
 ///
 /// It ends with `BadWords` only where the words ask for nothing that it does, and with `WriteFault` or
 /// `ReadFault` only where a world counted a fault.
@@ -64,7 +65,7 @@ pub fn run_words<
         (λ t. t.faults) (λ t. t.lacks) (λ t. name_of t.file t.world.calls)
         words.now pairs result.world result.taps.items }
     ensures bad_taps { BeginsWithTap words.now → ((pairs : ℕ) → ¬ AsksForTaps words.now pairs)
-        → result.status ≡ Status.BadWords }
+        → asked_text words.now ≡ None → result.status ≡ Status.BadWords }
     ensures no_command { ¬ BeginsWithTap words.now
         → asked words.now ≡ None → asked_text words.now ≡ None
         → begins_watch words.now ≡ false → result.status ≡ Status.BadWords }
@@ -75,6 +76,9 @@ pub fn run_words<
         → (0 < (W.ledger result.world).write_faults) ⊎ ((0 < (V.ledger result.out).write_faults)
         ⊎ HasRefused (λ w. (real_ledger w).write_faults) result.refused) }
 {
+    if asks_text(words) {
+        return run_alone(rt.alloc(), words, world, out);
+    }
     if asks_for_rounds(words) {
         return run_racing(rt, words, world, out, clock, gate);
     }

@@ -14,8 +14,8 @@ mod running;
 pub use answering::perform;
 pub use choosing::run_words;
 pub use command_words::{
-    Request, Status, StatusText, WatchedTo, asks_watch, help, one_file, read_request, read_words,
-    tell_more, version, watch_words,
+    Status, StatusText, WatchedTo, asks_text, asks_watch, one_file, read_text, read_words,
+    tell_more, watch_words,
 };
 pub use ending::exit_of;
 pub use program::{Ended, run_arguments, run_program};

@@ -23,8 +23,8 @@ use std::thread::Threads;
 use var_locks::Gate;
 use world_io::{Clock, World};
 
-/// Does what the words ask for, where that is `live`, perhaps after taps, with all that `run_words`
-/// promises. Its threads may wait for one another.
+/// Does what the words ask for, where that is `live`, perhaps after taps, and no text, with all that
+/// `run_words` promises. Its threads may wait for one another.
 pub(crate) fn run_racing<
     'a,
     W: World + Drop,
@@ -40,6 +40,7 @@ pub(crate) fn run_racing<
     clock: &C,
     gate: &G,
 ) -> Ran<W, V, RealTap<'a, R>, SilentWorld<'a, R>>
+    requires no_text { asked_text words.now ≡ None }
     requires rounds { ¬ BeginsWithTap words.now → live_names words.now ≢ None }
     requires room { (W.ledger world).given < 2 ^ 31 }
     requires new_world { (file : ℕ) → (W.ledger world).created file ≡ false }

@@ -48,14 +48,15 @@ pub struct Ran<W, V, T, X> {
     pub refused: Option<X>,
 }
 
-/// Does what the words ask for, where that is not `live`, with all that `run_words` promises. It takes
-/// nothing that may wait, so it is proved to return.
+/// Does what the words ask for, where that is no text and not `live`, with all that `run_words`
+/// promises. It takes nothing that may wait, so it is proved to return.
 pub(crate) fn run_serial<'a, W: World + Drop, V: World + Drop, R: AllocGlobal + Files + Print>(
     rt: &'a R,
     words: &[Text],
     world: W,
     out: V,
 ) -> Ran<W, V, RealTap<'a, R>, SilentWorld<'a, R>>
+    requires no_text { asked_text words.now ≡ None }
     requires no_rounds { AsksNoRounds words.now }
     requires room { (W.ledger world).given < 2 ^ 31 }
     requires new_world { (file : ℕ) → (W.ledger world).created file ≡ false }
@@ -124,8 +125,8 @@ fn run_plain<T, X, W: World + Drop, V: World + Drop>(
     ensures no_command { asked words.now ≡ None → asked_text words.now ≡ None
         → begins_watch words.now ≡ false → result.status ≡ Status.BadWords }
 {
-    let mut world = world;
     if asks_watch(words) {
+        let mut world = world;
         let watched = watch_words(alloc, words, &mut world, out);
         return Ran {
             status: watched.status,
@@ -135,6 +136,26 @@ fn run_plain<T, X, W: World + Drop, V: World + Drop>(
             refused: None,
         };
     }
+    run_alone(alloc, words, world, out)
+}
+
+/// Performs the words. Nothing is printed through the world that is there for watched lines.
+pub(crate) fn run_alone<T, X, W: World + Drop, V: World + Drop>(
+    alloc: Global,
+    words: &[Text],
+    world: W,
+    out: V,
+) -> Ran<W, V, T, X>
+    requires no_rounds { live_names words.now ≡ None }
+    requires room { (W.ledger world).given < 2 ^ 31 }
+    ensures performs { PerformsIn W.honest W.shows W.ledger W.healthy (λ t. ⊥) words.now
+        result.status world result.world }
+    ensures prints_nothing { result.out ≡ out }
+    ensures orderly { KeepsOrder (W.ledger world) (W.ledger result.world) }
+    ensures no_command { asked words.now ≡ None → asked_text words.now ≡ None
+        → result.status ≡ Status.BadWords }
+{
+    let mut world = world;
     let status = perform(alloc, words, &mut world);
     Ran {
         status,

@@ -3,7 +3,7 @@ ghost use Rattle.std.specs.Result.{IsErrAnd};
 ghost use Rattle.std.specs.IoError.{error_kind};
 ghost use Rattle.std.specs.String.{string_bytes};
 ghost use Rattle.std.specs.Vec.Iter.{into_iter_items};
-ghost use Rattle.command_words.specs.Words.{Refuses, words_of};
+ghost use Rattle.command_words.specs.Words.{Refuses, unmarked, words_of};
 
 use job_commands::Status;
 use plain_text::{NoMemory, Text};
@@ -13,7 +13,7 @@ use std::io;
 use std::io::ErrorKind;
 
 /// The words of the command line: all arguments after the program's name, in order, each with its
-/// bytes.
+/// bytes. A first argument `--` is no word: it marks where they begin.
 ///
 /// std gives no arguments where one is not UTF-8: this is a usage error.
 pub fn read_words(alloc: Global, arguments: io::Result<Args>) -> Result<Vec<Text>, Status>
@@ -25,7 +25,22 @@ pub fn read_words(alloc: Global, arguments: io::Result<Args>) -> Result<Vec<Text
 {
     let mut arguments = arguments.map_err(refusal)?;
     let _name = arguments.next();
-    copy_texts(alloc, arguments).map_err(|_| Status::NoMemory)
+    let mut words = copy_texts(alloc, arguments).map_err(|_| Status::NoMemory)?;
+    drop_mark(&mut words);
+    Ok(words)
+}
+
+/// Takes a first `--` away.
+fn drop_mark(words: &mut Vec<Text>)
+    ensures { words.new.items ≡ unmarked words.old.items }
+{
+    let marked = match words.first() {
+        Some(word) => word.as_str() == "--",
+        None => false,
+    };
+    if marked {
+        words.remove(0);
+    }
 }
 
 /// Why there are no arguments.

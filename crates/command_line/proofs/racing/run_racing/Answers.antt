@@ -3,7 +3,7 @@ use Rattle.release_taps.proofs.Counting.{one_count}
 use Rattle.command_line.specs.Running.{IsNotBegun, TapsMirror}
 use Rattle.world_real.specs.Real.{real_ledger}
 use Rattle.world_told.specs.Sent.{name_of, sent_to}
-use Rattle.command_line.proofs.LiveWords.{is_command, never_watch, raced}
+use Rattle.command_line.proofs.LiveWords.{never_watch, raced}
 use Rattle.command_line.proofs.Runs.{plain_taps, rose_some, runs-bad, runs-plain}
 use Rattle.command_line.proofs.Runs.{runs-tapped, tapped-read_fault, tapped-write_fault, tapped_watch}
 use Rattle.command_line.proofs.racing.run_racing.Goals as goal
@@ -11,6 +11,7 @@ use Rattle.command_line.proofs.racing.run_racing.Goals as goal
 pub returns-in-Bad-clause-runs : goal.returns-in-Bad-clause-runs
 returns-in-Bad-clause-runs g c =
     runs-bad _ _ _ _ _ _ _ _ _ c.args.world c.args.world _ refl c.in-Bad.ensures.0 c.in-Bad.ensures.1
+    c.requires.no_text
 
 pub returns-in-Taps-clause-runs : goal.returns-in-Taps-clause-runs
 returns-in-Taps-clause-runs g c =
@@ -65,7 +66,7 @@ pub returns-in-Plain-clause-runs : goal.returns-in-Plain-clause-runs
 returns-in-Plain-clause-runs g c =
     runs-plain _ _ _ _ _ _ _ _ c.ftmb-status.result c.args.world c.ftmb-status.new.world _
     (λ plain. raced _ _ _ _ _ c.args.words.now c.ftmb-status.result c.args.world c.ftmb-status.new.world
-    (is_command c.args.words.now (c.requires.rounds c.in-Plain.ensures)) (record {
+    c.requires.no_text (record {
       bad_words = c.ftmb-status.ensures.bad_words;
       nothing_asked = c.ftmb-status.ensures.nothing_asked;
       bytes = λ p h. record {
@@ -89,7 +90,8 @@ returns-in-Plain-clause-runs g c =
       given = c.ftmb-status.ensures.given;
       before = c.ftmb-status.ensures.before;
     }))
-    (λ watch. absurd (never_watch c.args.words.now (c.requires.rounds c.in-Plain.ensures) watch)) c.in-Plain.ensures
+    (λ watch. absurd (never_watch c.args.words.now (c.requires.rounds c.in-Plain.ensures) watch)) c.requires.no_text
+    c.in-Plain.ensures
 
 pub returns-in-Plain-clause-read_fault : goal.returns-in-Plain-clause-read_fault
 returns-in-Plain-clause-read_fault g c fault = rose_some _ _ (c.ftmb-status.ensures.read_fault fault)

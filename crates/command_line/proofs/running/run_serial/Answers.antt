@@ -10,12 +10,13 @@ use Rattle.command_line.proofs.running.run_serial.Goals as goal
 pub returns-in-Bad-clause-runs : goal.returns-in-Bad-clause-runs
 returns-in-Bad-clause-runs g c =
     runs-bad _ _ _ _ _ _ _ _ _ c.args.world c.args.world _ refl c.in-Bad.ensures.0 c.in-Bad.ensures.1
+    c.requires.no_text
 
 pub returns-in-Plain-clause-runs : goal.returns-in-Plain-clause-runs
 returns-in-Plain-clause-runs g c =
     let ran = c.run_plain.ensures in
     runs-plain _ _ _ _ _ _ _ _ c.run_plain.result.status c.args.world c.run_plain.result.world _ ran.performs
-    ran.watches c.in-Plain.ensures
+    ran.watches c.requires.no_text c.in-Plain.ensures
 
 pub returns-in-Taps-clause-runs : goal.returns-in-Taps-clause-runs
 returns-in-Taps-clause-runs g c =
@@ -59,7 +60,7 @@ returns-in-Plain-clause-prints g c asks = c.run_plain.ensures.prints asks.watch
 
 pub returns-in-Plain-clause-prints_nothing : goal.returns-in-Plain-clause-prints_nothing
 returns-in-Plain-clause-prints_nothing g c asks =
-    c.run_plain.ensures.prints_nothing (plain_watch c.args.words.now c.in-Plain.ensures asks)
+    c.run_plain.ensures.prints_nothing (plain_watch c.args.words.now c.requires.no_text c.in-Plain.ensures asks)
 
 pub returns-in-Taps-clause-prints : goal.returns-in-Taps-clause-prints
 returns-in-Taps-clause-prints g c asks =

@@ -1,7 +1,7 @@
-use Rattle.command_line.proofs.running.run_plain.Goals as goal
+use Rattle.command_line.proofs.running.run_alone.Goals as goal
 
 pub returns-clause-performs : goal.returns-clause-performs
-returns-clause-performs g c plain =
+returns-clause-performs g c =
     let done = c.perform-status.ensures in
     record {
       bytes = done.performs;
