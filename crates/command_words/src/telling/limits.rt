@@ -58,11 +58,6 @@ fn tell_bytes<R: Files + Eprint>(rt: &R, words: &[Text]) -> io::Result<()> {
         Some(Command::Live(_)) => {
             eprintln!(rt; "the script of the run, or an input, would have more than {most} bytes")
         }
-        Some(Command::Hand(_)) => {
-            eprintln!(rt;
-                "the text of the handover, or an input, would have more than {most} bytes"
-            )
-        }
         _ => eprintln!(rt; "an input has more than {most} bytes"),
     }
 }
@@ -119,9 +114,6 @@ fn tell_events<R: AllocGlobal + Files + Eprint>(rt: &R, line: &[Text]) -> io::Re
     match command {
         Command::Live(_) => eprintln!(rt;
             "the script of the run would have more than {most} events"
-        ),
-        Command::Hand(_) => eprintln!(rt;
-            "the text of the handover would have more than {most} lines"
         ),
         _ => eprintln!(rt; "an input has more than {most} events"),
     }

@@ -13,10 +13,6 @@ use std::alloc::Global;
 use std::io;
 use std::rt::Files;
 
-/// How many packets are compared at most to find those that were taken: some 64 for each packet of the largest capture.
-/// Captures in the order of the schedule need one or two.
-const MOST_COMPARED: usize = 64 * 65_536;
-
 /// A packet with what the fraction of its time counts.
 #[derive(Clone, Copy)]
 struct Timed<'a> {
@@ -65,8 +61,7 @@ fn nanoseconds_of(unit: Unit, packet: &Packet) -> u64 {
 }
 
 /// Tells in what a released packet that was refused differs from the nearest packet that the schedule sends out and
-/// that no earlier released packet was taken for. The schedule is played once more. Nothing is told where that would take
-/// more than `MOST_COMPARED` comparisons.
+/// that no earlier released packet was taken for. The schedule is played once more.
 pub fn tell_packet<R: AllocGlobal + Files + Eprint>(
     rt: &R,
     names: CheckWords<'_>,
@@ -87,11 +82,8 @@ pub fn tell_packet<R: AllocGlobal + Files + Eprint>(
             "{name}: packet {number} is emission {place} once more, as an earlier packet is"
         );
     }
-    let Some(taken) = taken_before(rt.alloc(), &sent, &released, number) else {
-        return Ok(());
-    };
     let count = sent.packets.len();
-    match nearest_left(&sent, &taken, refused) {
+    match nearest_left(rt.alloc(), &sent, &released, number, refused) {
         Some(near) => tell_difference(rt, name, number, refused, near),
         None => eprintln!(rt;
             "{name}: packet {number}: the schedule sends out {count} packets, all found before"
@@ -159,8 +151,16 @@ struct Emitted<'a> {
     sent: Timed<'a>,
 }
 
-/// Of the packets that were sent out and not taken, the one with the fewest differences from this packet.
-fn nearest_left<'a>(sent: &'a Captured, taken: &[bool], refused: Timed<'_>) -> Option<Emitted<'a>> {
+/// Of the packets that were sent out, and that none of the released ones before this number was taken for, the one with
+/// the fewest differences from this packet.
+fn nearest_left<'a>(
+    alloc: Global,
+    sent: &'a Captured,
+    released: &Captured,
+    number: u64,
+    refused: Timed<'_>,
+) -> Option<Emitted<'a>> {
+    let taken = taken_before(alloc, sent, released, number)?;
     let unit = sent.unit;
     let mut nearest = None;
     let mut fewest = usize::MAX;
@@ -177,8 +177,7 @@ fn nearest_left<'a>(sent: &'a Captured, taken: &[bool], refused: Timed<'_>) -> O
     nearest
 }
 
-/// Which of the packets that were sent out the released ones before this number were taken for; `None` where they are
-/// too many to be compared.
+/// Which of the packets that were sent out the released ones before this number were taken for.
 fn taken_before(
     alloc: Global,
     sent: &Captured,
@@ -190,16 +189,12 @@ fn taken_before(
     let unit = released.unit;
     let mut taken = vec![in alloc; false; sent.packets.len()].ok()?;
     let mut next = 0;
-    let mut room = MOST_COMPARED;
     for packet in earlier {
         let packet = Timed { packet, unit };
-        let found = match free_from(sent, &taken, next, packet, &mut room) {
+        let found = match free_from(sent, &taken, next, packet) {
             Some(place) => Some(place),
-            None => free_from(sent, &taken, 0, packet, &mut room),
+            None => free_from(sent, &taken, 0, packet),
         };
-        if room == 0 {
-            return None;
-        }
         if let Some(place) = found {
             if let Some(slot) = taken.get_mut(place) {
                 *slot = true;
@@ -210,33 +205,23 @@ fn taken_before(
     Some(taken)
 }
 
-/// The place of the first packet from this place on that is the same as another and is not taken. Of the room for
-/// comparisons what was compared is taken away, and no more is compared.
-fn free_from(
-    sent: &Captured,
-    taken: &[bool],
-    from: usize,
-    packet: Timed<'_>,
-    room: &mut usize,
-) -> Option<usize> {
+/// The place of the first packet from this place on that is the same as another and is not taken.
+fn free_from(sent: &Captured, taken: &[bool], from: usize, packet: Timed<'_>) -> Option<usize> {
     let unit = sent.unit;
     let packets = sent.packets.as_slice().get(from..)?;
     let taken = taken.get(from..)?;
-    let most = *room;
-    let mut compared: usize = 0;
-    for (other, is_taken) in packets.iter().zip(taken.iter()).take(most) {
+    let mut place = from;
+    for (other, is_taken) in packets.iter().zip(taken.iter()) {
         if !*is_taken
             && packet.is_same(Timed {
                 packet: other,
                 unit,
             })
         {
-            *room = most.saturating_sub(compared);
-            return Some(from.saturating_add(compared));
+            return Some(place);
         }
-        compared = compared.saturating_add(1);
+        place = place.saturating_add(1);
     }
-    *room = most.saturating_sub(compared);
     None
 }
 
