@@ -1,7 +1,7 @@
 -- Looking up a frame in several runs and others.
 use Rattle.std.proofs.Common.{◌≡◌, ℕ, zero, suc, ◌+◌, ◌≤◌, ◌<◌, ◌≢◌, Bool, true, false, cond, List, [], ◌∷◌, ◌++◌}
-use Rattle.std.proofs.Common.{Option, Some, None, Bor, IfSome, option_copied, length, length-set, slice_index_or}
-use Rattle.std.proofs.Common.{slice_set, ⊎_elim, refl, sym, ap, ◌∙◌, subst, arith, add-one}
+use Rattle.std.proofs.Common.{Option, Some, None, Bor, IfSome, IfNone, option_copied, length, length-set}
+use Rattle.std.proofs.Common.{slice_index_or, slice_set, ⊎_elim, refl, sym, ap, ◌∙◌, subst, arith, add-one}
 use Rattle.std.specs.BTreeMap.{is_at}
 use Rattle.link_store.specs.declared.address.Address.{Address}
 use Rattle.link_store.specs.contracts.address.AddressOrd.TheImpl as address_order
@@ -90,6 +90,21 @@ pub found_if : (runs : List Run) (others : List (Address × List ℕ)) (i : ℕ)
 found_if runs others i a run None low before read is = tt
 found_if runs others i a run (Some x) low before read is =
     found_in runs others i a x.now run low before (ap (λ (q : Run). frame_at (frames_of q) a) (sym read) ∙ sym is)
+
+-- a change of the i-th run elsewhere
+pub others_in : (runs : List Run) (others : List (Address × List ℕ)) (i : ℕ) (run d : Run) (b : Address)
+    → frame_at (frames_of run) b ≡ frame_at (frames_of (slice_index_or runs i d)) b
+    → frame_at (all_of (slice_set runs i run) others) b ≡ frame_at (all_of runs others) b
+others_in [] others i run d b same = refl
+others_in (r ∷ runs) others zero run d b same =
+    both_same (frames_of r) (frames_of run) (all_of runs others) (all_of runs others) b same refl
+others_in (r ∷ runs) others (suc i) run d b same =
+    both_same (frames_of r) (frames_of r) (all_of runs others) (all_of (slice_set runs i run) others) b refl
+    (others_in runs others i run d b same)
+
+pub if_none_then : {X P Q : Type 0} (r : Option X) → IfNone r P → (P → Q) → IfNone r Q
+if_none_then None p f = f p
+if_none_then (Some x) p f = tt
 
 -- none of the runs has it, so it is looked up in the others
 pub none_in_runs : (runs : List Run) (others : List (Address × List ℕ)) (a : Address)

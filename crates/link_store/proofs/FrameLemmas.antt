@@ -1,6 +1,6 @@
 -- Frames as they are sent, and what comes back.
 use Rattle.std.specs.Prelude.{slice_index, ◌^◌}
-use Rattle.std.proofs.Common.{◌≡◌, ℕ, ◌<◌, List, [], ◌∷◌, ◌++◌, length, refl, sym, ap, ◌∙◌, subst, Option, Some}
+use Rattle.std.proofs.Common.{◌≡◌, ◌≢◌, ℕ, ◌<◌, List, [], ◌∷◌, ◌++◌, length, refl, sym, ap, ◌∙◌, subst, Option, Some}
 use Rattle.std.proofs.Common.{arith}
 use Rattle.std.specs.Prelude.{slice_set, slice_index_or}
 use Rattle.std.proofs.lemmas.List.{get_or_default}
@@ -16,7 +16,7 @@ use Rattle.wire_frames.proofs.Ranges.{is_sent, is_done}
 use Rattle.wire_frames.proofs.Whole.{is_written}
 use Rattle.wire_frames.specs.Writing.{CanPutEntry, CanPutOutput}
 use Rattle.link_store.specs.Sending.{Sending, HasEntryFrame, HasOutputFrame, SendsEntry, SendsOutput, SendsAgain}
-use Rattle.link_store.specs.Sending.{CountsEntry, entry_size, entry_address, output_address, lengths_of}
+use Rattle.link_store.specs.Sending.{CountsEntry, TakesOutput, entry_size, entry_address, output_address, lengths_of}
 use Rattle.link_store.specs.Spelled.{IsEntryFrame, IsOutputFrame}
 
 -- the frame that is found is that of the entry, or of the output
@@ -178,6 +178,26 @@ sends_again old now frames o bytes as_now can is sends =
       epoch = refl;
       threads = refl;
     })
+
+-- a frame is off the links, or none is
+pub takes_output : (old now : Sending) (frames : List (Address × List ℕ)) (t n : ℕ) → old ≡ now
+    → ((a : Address) → a ≢ output_address old t n → frame_at frames a ≡ frame_at old.frames a)
+    → TakesOutput now (record old { frames = frames }) t n
+takes_output old now frames t n as_now others =
+    subst (λ (q : Sending). TakesOutput q (record old { frames = frames }) t n) as_now
+    (record { frames = others; entries = refl; outputs = refl; epoch = refl; threads = refl })
+
+pub has_still : (old now : Sending) (frames : List (Address × List ℕ)) (o : Output) → old ≡ now
+    → ((a : Address) → frame_at frames a ≡ frame_at old.frames a) → HasOutputFrame now o
+    → HasOutputFrame (record old { frames = frames }) o
+has_still old now frames o as_now same has =
+    let was = subst (λ (q : Sending). HasOutputFrame q o) (sym as_now) has in
+    record {
+      can = was.can;
+      bytes = was.bytes;
+      is = was.is;
+      there = same (output_address old o.thread o.number) ∙ was.there;
+    }
 
 -- the lengths of a thread with one more behind
 pub one_longer_is : (lengths : List (List ℕ)) (t threads : ℕ) (now longer : List ℕ) (size is_size : ℕ)

@@ -94,6 +94,9 @@ past_head first f rest b apart = ap (λ t. cond t (Some f) (frame_at rest b)) (i
 later_none : (a : Address) → later a 0 ≡ a
 later_none a = same_address (later a 0) a refl refl refl (omega arith)
 
+pub at_first : (first a : Address) (i : ℕ) → i ≡ 0 → a ≡ later first i → a ≡ first
+at_first first a i none is = is ∙ ap (λ (k : ℕ). later first k) none ∙ later_none first
+
 later_more : (a : Address) (i : ℕ) → later a (suc i) ≡ later (later a 1) i
 later_more a i = same_address (later a (suc i)) (later (later a 1) i) refl refl refl (omega arith)
 
@@ -226,13 +229,27 @@ none_up_to frames first last a past up = run_out frames first a (λ i low e.
     omega arith)
 
 -- the first frame is forgotten, and the run begins with the next
+pub drops_head : (frames : List (List ℕ)) (first : Address) (next : ℕ)
+    → (1 < length frames → next ≡ first.number + 1) → (a : Address) → a ≢ first
+    → frame_at (in_turn (address first.epoch first.kind first.thread next) (drop 1 frames)) a
+    ≡ frame_at (in_turn first frames) a
+drops_head [] first next follows a far = refl
+drops_head (f ∷ frames) first next follows a far =
+    rest frames (λ more. follows (omega arith)) ∙ sym (past_head first f (in_turn (later first 1) frames) a far)
+  where
+    rest : (frames : List (List ℕ)) → (0 < length frames → next ≡ first.number + 1)
+        → frame_at (in_turn (address first.epoch first.kind first.thread next) frames) a
+        ≡ frame_at (in_turn (later first 1) frames) a
+    rest [] follows = refl
+    rest (g ∷ frames) follows =
+        ap (λ (n : ℕ). frame_at (in_turn (address first.epoch first.kind first.thread n) (g ∷ frames)) a)
+        (follows (omega arith))
+
 pub drops_first : (frames : List (List ℕ)) (first last : Address) (next : ℕ) → IsBeside first last
     → first.number ≤ last.number → (1 < length frames → next ≡ first.number + 1) → (a : Address) → (IsUpTo last a → ⊥)
     → frame_at (in_turn (address first.epoch first.kind first.thread next) (drop 1 frames)) a
     ≡ frame_at (in_turn first frames) a
-drops_first [] first last next beside low follows a apart = refl
-drops_first (f ∷ frames) first last next beside low follows a apart =
-    rest frames (λ more. follows (omega arith)) ∙ sym (past_head first f (in_turn (later first 1) frames) a far)
+drops_first frames first last next beside low follows a apart = drops_head frames first next follows a far
   where
     far : a ≢ first
     far e = apart (record {
@@ -241,14 +258,6 @@ drops_first (f ∷ frames) first last next beside low follows a apart =
       thread = ap (λ (q : Address). q.thread) e ∙ beside.thread;
       number = let n = ap (λ (q : Address). q.number) e in omega arith;
     })
-
-    rest : (frames : List (List ℕ)) → (0 < length frames → next ≡ first.number + 1)
-        → frame_at (in_turn (address first.epoch first.kind first.thread next) frames) a
-        ≡ frame_at (in_turn (later first 1) frames) a
-    rest [] follows = refl
-    rest (g ∷ frames) follows =
-        ap (λ (n : ℕ). frame_at (in_turn (address first.epoch first.kind first.thread n) (g ∷ frames)) a)
-        (follows (omega arith))
 
 pub drops_epoch : (frames : List (List ℕ)) (first : Address) (epoch : ℕ) → first.epoch ≡ epoch
     → Forgets (IsOfEpoch epoch) (in_turn first frames) []

@@ -7,10 +7,10 @@ use Rattle.link_store.specs.declared.kept.Form.TheVariants.{Spelled, Told}
 
 abbrev pub bytes_of : Form → List ℕ
 bytes_of (Spelled bytes) = bytes
-bytes_of (Told told) = written (frame.Output told.value.epoch told.value.threads told.value.output)
+bytes_of (Told told) = written (frame.Output told.epoch told.threads told.output)
 
 -- an output is kept in place of its frame only where it has one
 abbrev pub IsWell : Form → Type 0
 IsWell (Spelled bytes) = Unit {0}
 IsWell (Told told) =
-    let f = frame.Output told.value.epoch told.value.threads told.value.output in IsFrame (written f) f
+    let f = frame.Output told.epoch told.threads told.output in IsFrame (written f) f

@@ -1,6 +1,6 @@
 -- What a master sent on its links: the frames of its entries and outputs that are not forgotten, and how long each was.
-use Rattle.std.specs.Prelude.{◌≡◌, ℕ, zero, suc, ◌+◌, ◌*◌, ◌≤◌, ◌⊎◌, List, [], ◌∷◌, ◌++◌, length, replicate, slice_get}
-use Rattle.std.specs.Prelude.{slice_index, slice_index_or, slice_set, take, Option, Some, None}
+use Rattle.std.specs.Prelude.{◌≡◌, ◌≢◌, ℕ, zero, suc, ◌+◌, ◌*◌, ◌≤◌, ◌⊎◌, List, [], ◌∷◌, ◌++◌, length, replicate}
+use Rattle.std.specs.Prelude.{slice_get, slice_index, slice_index_or, slice_set, take, Option, Some, None}
 use Rattle.plain_text.specs.declared.kind.Kind.TheVariants.{Log, Out}
 use Rattle.wire_frames.specs.FromAccessLog.{StampedEntry}
 use Rattle.wire_frames.specs.FromAccessLog.{Output}
@@ -117,6 +117,14 @@ pub record ForgetsCovered (old new : Sending) (counts : List ℕ) : Type 0 where
 -- So are those of its first outputs.
 pub record ForgetsOutputs (old new : Sending) (t up_to : ℕ) : Type 0 where
   pub forgets : Forgets (IsUpTo (output_address old t up_to)) old.frames new.frames
+  pub entries : new.entries ≡ old.entries
+  pub outputs : new.outputs ≡ old.outputs
+  pub epoch : new.epoch ≡ old.epoch
+  pub threads : new.threads ≡ old.threads
+
+-- The frame of this output may be off the links, and no other.
+pub record TakesOutput (old new : Sending) (t n : ℕ) : Type 0 where
+  pub frames : (a : Address) → a ≢ output_address old t n → frame_at new.frames a ≡ frame_at old.frames a
   pub entries : new.entries ≡ old.entries
   pub outputs : new.outputs ≡ old.outputs
   pub epoch : new.epoch ≡ old.epoch

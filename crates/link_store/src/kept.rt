@@ -1,4 +1,4 @@
-ghost use Rattle.std.specs.Prelude.{◌≡◌, ◌<◌, ◌^◌, ℕ, Some, IfOk, slice_index};
+ghost use Rattle.std.specs.Prelude.{◌≡◌, ◌<◌, ◌^◌, ℕ, Some, IfOk, IfSome, slice_index};
 ghost use Rattle.wire_frames.specs.FromAccessLog.{Output as OutputValue};
 ghost use Rattle.wire_frames.specs.FromAccessLog.{StampedEntry as EntryValue};
 ghost use Rattle.wire_frames.specs.declared.frame.Frame.TheVariants as frame_is;
@@ -8,7 +8,6 @@ ghost use Rattle.wire_frames.specs.Writing.{CanPutOutput};
 use crate::reading::{entry_in, output_in};
 use plain_text::{Bytes, NoMemory};
 use std::alloc::Global;
-use std::boxed::Box;
 use std::marker::Model;
 use wire_frames::{Output, StampedEntry, copy_output};
 
@@ -26,7 +25,7 @@ enum Form {
     /// As its bytes.
     Spelled(Bytes),
     /// As the output that it tells.
-    Told(Box<ToldOutput>),
+    Told(ToldOutput),
 }
 
 /// A frame on a link. Contracts see its bytes.
@@ -94,27 +93,20 @@ impl KeptFrame {
     }
 
     /// The frame of an output of this epoch, of a sender with this number of threads, kept as the output.
-    pub fn of_output(
-        alloc: Global,
-        epoch: u32,
-        threads: u32,
-        output: Output,
-    ) -> Result<Self, NoMemory>
+    pub fn of_output(epoch: u32, threads: u32, output: Output) -> Self
         requires { CanPutOutput epoch threads output }
-        ensures spelled { IfOk result (λ kept. kept
-            ≡ written (frame_is.Output epoch threads output)) }
+        ensures spelled { result ≡ written (frame_is.Output epoch threads output) }
         ensures frame { IsFrame (written (frame_is.Output epoch threads output))
             (frame_is.Output epoch threads output) }
     {
         is_frame(epoch, threads, &output);
-        let told = ToldOutput {
-            epoch,
-            threads,
-            output,
-        };
-        Ok(KeptFrame {
-            form: Form::Told(Box::new(alloc, told)?),
-        })
+        KeptFrame {
+            form: Form::Told(ToldOutput {
+                epoch,
+                threads,
+                output,
+            }),
+        }
     }
 
     /// The entry of the frame, if it is that of an entry. It answers that memory ran out where a component of the stamp
@@ -137,6 +129,28 @@ impl KeptFrame {
         match &self.form {
             Form::Spelled(bytes) => output_in(alloc, bytes.as_slice()),
             Form::Told(told) => Ok(Some(copy_output(alloc, &told.output)?)),
+        }
+    }
+
+    /// The output itself, where the frame is kept as one.
+    pub fn told(&self) -> Option<&Output>
+        ensures { IfSome result (λ told. (epoch threads : ℕ) (o : OutputValue)
+            → IsFrame self.now (frame_is.Output epoch threads o) → told.now ≡ o) }
+    {
+        match &self.form {
+            Form::Spelled(_) => None,
+            Form::Told(told) => Some(&told.output),
+        }
+    }
+
+    /// The output of the frame, as `output` has it: one that is kept as an output is moved out.
+    pub fn into_output(self, alloc: Global) -> Result<Option<Output>, NoMemory>
+        ensures { IfOk result (λ found. (epoch threads : ℕ) (o : OutputValue)
+            → IsFrame self (frame_is.Output epoch threads o) → found ≡ Some o) }
+    {
+        match self.form {
+            Form::Spelled(bytes) => output_in(alloc, bytes.as_slice()),
+            Form::Told(told) => Ok(Some(told.output)),
         }
     }
 }

@@ -1,4 +1,4 @@
-ghost use Rattle.std.specs.Prelude.{◌≡◌, ◌<◌, ℕ, List, [], Some, None, IsSome, OnOk, OnErr, IfOk};
+ghost use Rattle.std.specs.Prelude.{◌≡◌, ◌≢◌, ◌<◌, ℕ, List, [], Some, None, IsSome, OnOk, OnErr, IfOk};
 ghost use Rattle.std.specs.Prelude.{IfSome, IfNone, length, option_copied, slice_index_or};
 ghost use Rattle.plain_text.specs.declared.kind.Kind.TheVariants.{Out};
 ghost use Rattle.wire_frames.specs.declared.frame.Frame.TheVariants as frame_is;
@@ -6,7 +6,8 @@ ghost use Rattle.wire_frames.specs.Layout.{written, IsFrame};
 ghost use Rattle.wire_frames.specs.Writing.{CanPutOutput};
 ghost use Rattle.link_store.specs.declared.address.Address.{Address};
 ghost use Rattle.link_store.specs.Links.{address, frame_at, Sends, Forgets, IsUpTo, IsOfEpoch};
-ghost use Rattle.link_store.specs.Runs.{Run as RunValue, all_of, IsFirstTaker, NoneTakes};
+ghost use Rattle.link_store.specs.Runs.{Run as RunValue, frames_of, all_of, IsFirstTaker};
+ghost use Rattle.link_store.specs.Runs.{NoneTakes};
 ghost use Rattle.link_store.specs.Runs.{ForgetsEach};
 
 use crate::run::Run;
@@ -89,6 +90,32 @@ fn in_runs<'a>(runs: &'a Vec<Run>, at: &Address) -> Option<&'a KeptFrame>
         }
     }
     None
+}
+
+/// The first of the runs that has a frame at this address.
+fn holder(runs: &Vec<Run>, at: &Address) -> Option<usize>
+    ensures { IfSome result (λ i. (i < length runs.now.items) × ((j : ℕ) (d : RunValue) → j < i
+        → frame_at (frames_of (slice_index_or runs.now.items j d)) at.now ≡ None)) }
+{
+    for i in 0..runs.len() {
+        if runs[i].get(at).is_some() {
+            return Some(i);
+        }
+    }
+    None
+}
+
+/// Takes the frame at this address out of the runs, if it is the first of its run.
+fn take_first_in_runs(runs: &mut Vec<Run>, at: &Address) -> Option<KeptFrame>
+    ensures taken { (others : List (Address × List ℕ)) → IfSome result (λ frame.
+        frame_at (all_of runs.old.items others) at.now ≡ Some frame) }
+    ensures others { (others : List (Address × List ℕ)) (a : Address) → a ≢ at.now
+        → frame_at (all_of runs.new.items others) a ≡ frame_at (all_of runs.old.items others) a }
+    ensures none { (others : List (Address × List ℕ)) (a : Address) → IfNone result
+        (frame_at (all_of runs.new.items others) a ≡ frame_at (all_of runs.old.items others) a) }
+{
+    let i = holder(runs, at)?;
+    runs[i].take_first(at)
 }
 
 /// Forgets the frames of the runs up to this address.
@@ -259,7 +286,7 @@ impl Links {
             thread: output.thread,
             number: output.number,
         };
-        let frame = KeptFrame::of_output(self.alloc, epoch, threads, output)?;
+        let frame = KeptFrame::of_output(epoch, threads, output);
         keep(self.alloc, &mut self.runs, &mut self.others, address, frame)
     }
 
@@ -279,6 +306,25 @@ impl Links {
             Some(frame) => Some(frame),
             None => self.others.get(&address),
         }
+    }
+
+    /// Takes the frame of an output off the links, where none before it is there: the first of those whose numbers
+    /// follow one another. It takes no memory.
+    pub fn take_output(&mut self, epoch: u32, thread: u32, number: u64) -> Option<KeptFrame>
+        ensures taken { IfSome result (λ frame.
+            frame_at self.old (address epoch Out thread number) ≡ Some frame) }
+        ensures others { (a : Address) → a ≢ address epoch Out thread number
+            → frame_at self.new a ≡ frame_at self.old a }
+        ensures none { (a : Address)
+            → IfNone result (frame_at self.new a ≡ frame_at self.old a) }
+    {
+        let address = Address {
+            epoch,
+            kind: Kind::Out,
+            thread,
+            number,
+        };
+        take_first_in_runs(&mut self.runs, &address)
     }
 
     /// Forgets the frames of this epoch, kind and thread with numbers up to this one. It takes no memory, and where no

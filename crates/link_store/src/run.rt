@@ -1,5 +1,6 @@
-ghost use Rattle.std.specs.Prelude.{◌≡◌, ◌↔◌, ℕ, ◌+◌, ◌≤◌, [], ◌∷◌, IsTrue, IfSome, IfNone, IfOk};
-ghost use Rattle.std.specs.Prelude.{OnOk, OnErr, length, option_copied};
+ghost use Rattle.std.specs.Prelude.{◌≡◌, ◌≢◌, ◌↔◌, ℕ, ◌+◌, ◌≤◌, [], ◌∷◌, IsTrue, IfSome, IfNone};
+ghost use Rattle.std.specs.Prelude.{IfOk, OnOk, OnErr, Some, length, option_copied};
+ghost use Rattle.link_store.specs.declared.address.Address.{Address};
 ghost use Rattle.link_store.specs.Links.{frame_at, Sends, Forgets, IsUpTo, IsOfEpoch};
 ghost use Rattle.link_store.specs.Runs.{frames_of, later, Takes};
 
@@ -86,6 +87,23 @@ impl Run {
             self.frames.push_back(frame)?;
         }
         Ok(())
+    }
+
+    /// Takes the first frame out, if it has this address.
+    pub fn take_first(&mut self, at: &Address) -> Option<KeptFrame>
+        ensures taken { IfSome result (λ frame. frame_at (frames_of self.old) at.now
+            ≡ Some frame) }
+        ensures others { (a : Address) → a ≢ at.now
+            → frame_at (frames_of self.new) a ≡ frame_at (frames_of self.old) a }
+        ensures none { IfNone result (self.new ≡ self.old) }
+    {
+        let place = self.index_of(at)?;
+        if place > 0 {
+            return None;
+        }
+        let frame = self.frames.pop_front()?;
+        self.first.number = self.first.number.saturating_add(1);
+        Some(frame)
     }
 
     /// Forgets the frames up to this address.

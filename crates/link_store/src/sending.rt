@@ -1,5 +1,5 @@
-ghost use Rattle.std.specs.Prelude.{◌≡◌, ◌<◌, ◌≤◌, ◌+◌, ◌-◌, ◌^◌, ℕ, [], None, Some, IfOk, OnOk};
-ghost use Rattle.std.specs.Prelude.{length, replicate, slice_index};
+ghost use Rattle.std.specs.Prelude.{◌≡◌, ◌<◌, ◌≤◌, ◌+◌, ◌-◌, ◌^◌, ℕ, [], None, Some, IfOk, IfSome};
+ghost use Rattle.std.specs.Prelude.{OnOk, length, replicate, slice_index};
 ghost use Rattle.wire_frames.specs.Parts.{FitsWord};
 ghost use Rattle.wire_frames.specs.FromAccessLog.{StampedEntry};
 ghost use Rattle.wire_frames.specs.FromAccessLog.{Output as OutputValue};
@@ -7,7 +7,7 @@ ghost use Rattle.plain_text.specs.declared.kind.Kind.TheVariants as kind_is;
 ghost use Rattle.link_store.specs.Links.{frame_at};
 ghost use Rattle.wire_frames.specs.Writing.{CanPutEntry, CanPutOutput};
 ghost use Rattle.link_store.specs.Sending.{IsUnsent, SendsEntry, SendsOutput, SendsAgain};
-ghost use Rattle.link_store.specs.Sending.{CountsEntry};
+ghost use Rattle.link_store.specs.Sending.{CountsEntry, TakesOutput};
 ghost use Rattle.link_store.specs.Sending.{ForgetsEntries, ForgetsOutputs, BeginsEpoch, TurnsBack};
 ghost use Rattle.link_store.specs.Sending.{HasEntryFrame, HasOutputFrame, entry_address};
 ghost use Rattle.link_store.specs.Sending.{output_address, length_at};
@@ -247,6 +247,28 @@ impl SentFrames {
         match self.links.fetch(self.epoch, Kind::Out, thread, number) {
             Some(frame) => frame.output(self.alloc),
             None => Ok(None),
+        }
+    }
+
+    /// The output that was sent under this number, where it is on the links as an output.
+    pub fn told(&self, thread: u32, number: u64) -> Option<&Output>
+        ensures { IfSome result (λ told. (o : OutputValue) → HasOutputFrame self.now o
+            → o.thread ≡ thread → o.number ≡ number → told.now ≡ o) }
+    {
+        let frame = self.links.fetch(self.epoch, Kind::Out, thread, number)?;
+        frame.told()
+    }
+
+    /// The output that was sent under this number. Where it is the first of its thread on the links, it is moved off
+    /// them, else it is a copy. After `NoMemory` the links are of no use any more.
+    pub fn take_output(&mut self, thread: u32, number: u64) -> Result<Option<Output>, NoMemory>
+        ensures there { IfOk result (λ found. (o : OutputValue) → HasOutputFrame self.old o
+            → o.thread ≡ thread → o.number ≡ number → found ≡ Some o) }
+        ensures others { TakesOutput self.old self.new thread number }
+    {
+        match self.links.take_output(self.epoch, thread, number) {
+            Some(frame) => frame.into_output(self.alloc),
+            None => self.output(thread, number),
         }
     }
 

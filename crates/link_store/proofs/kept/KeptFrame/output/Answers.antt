@@ -2,7 +2,6 @@ use Rattle.std.proofs.Common.{◌≡◌, ℕ, List, Some, sym, ap, ◌∙◌, su
 use Rattle.std.proofs.lemmas.Result.{IfOk-weaker}
 use Rattle.wire_frames.specs.declared.frame.Frame.TheVariants as frame
 use Rattle.wire_frames.specs.Layout.{written, IsFrame}
-use Rattle.link_store.specs.declared.kept.ToldOutput.{ToldOutput}
 use Rattle.link_store.specs.Kept.{bytes_of, IsWell}
 use Rattle.link_store.proofs.KeptLemmas.{one_output}
 use Rattle.link_store.proofs.kept.KeptFrame.output.Goals as goal
@@ -18,11 +17,10 @@ returns-in-Spelled c =
 
 pub returns-in_ok-copy_output-in-Told : goal.returns-in_ok-copy_output-in-Told
 returns-in_ok-copy_output-in-Told c epoch threads o is =
-    let told = c.in-Told.told.value in
+    let told = c.in-Told.told in
     let bytes = written (frame.Output told.epoch told.threads told.output) in
     let well = subst IsWell c.in-Told.is c.self.invariant in
     let same = sym c.self.view_is ∙ ap bytes_of c.in-Told.is in
     let here = subst (λ (l : List ℕ). IsFrame l (frame.Output epoch threads o)) same is in
     ap Some (c.in_ok-copy_output-in-Told.ensures
-    ∙ ap (λ (t : ToldOutput). t.output) c.deref.ensures
     ∙ one_output bytes told.epoch told.threads epoch threads told.output well o here)
