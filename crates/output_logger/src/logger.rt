@@ -312,18 +312,19 @@ impl OutputLogger {
     }
 
     /// Whether this output of the thread was released or waits.
-    fn has_arrived(&self, thread: u32, number: u64) -> bool
+    pub fn has_arrived(&self, thread: u32, number: u64) -> bool
         ensures { IsTrue result ↔ HasArrived self.now thread number }
     {
         let _waiting = &self.waiting;
         self.released.seen(thread, number) || self.released.has_room(thread, number)
     }
 
-    /// Releases an output that is due.
-    fn send(&mut self, output: Output, out: &mut Outputs) -> Result<(), NoMemory>
+    /// Releases an output of this epoch that is due as it arrives, and appends it to the list.
+    pub fn send(&mut self, output: Output, out: &mut Outputs) -> Result<(), NoMemory>
         requires thread_in { output.thread < length self.old.held }
         requires numbered { 1 ≤ output.number }
         requires fresh { HasArrived self.old output.thread output.number → ⊥ }
+        requires due { IsDue self.old.held output }
         ensures released { OnOk result (out.new ≡ out.old ++ output ∷ []) }
         ensures err { OnErr result ((self.new ≡ self.old) × (out.new ≡ out.old)) }
         ensures appends { out.new ≡ out.old ++ appended out.old out.new }
