@@ -44,6 +44,7 @@ use Rattle.output_releases.proofs.FromSystemParts.{frontiers}
 use Rattle.output_releases.proofs.FromSystemParts.{marks_stay}
 use Rattle.link_store.specs.Links.{frame_at}
 use Rattle.output_releases.proofs.Answering.{AnswersTo, in_setting, stays}
+use Rattle.message_arrivals.specs.Arriving.{GoesNext}
 
 -- the output of the past that this one is, with the stamp of its predecessors
 pub record IsSentByPast {V : Type 0} (w : World V) (t j : ℕ) (x : Output) : Type 0 where
@@ -58,6 +59,32 @@ not_both found x none some = cc
 
 same_some : (found : Option Output) (x z : Output) → found ≡ Some x → found ≡ Some z → z ≡ x
 same_some found x z a b = cc
+
+-- its frame is on the links
+pub record IsOnLinks {V : Type 0} (w : World V) (links : Sending) (t j : ℕ) : Type 0 where
+  pub output : Output
+  pub frame : HasOutputFrame links output
+  pub thread : output.thread ≡ t
+  pub number : output.number ≡ j
+  pub of : IsSentByPast w t j output
+
+-- what is found of it is the output, and nothing is missing for it
+module _ {V : Type 0} (w : World V) (links : Sending) (l : Logger) (t j : ℕ) (there : IsOnLinks w links t j)
+    (found : Option Output)
+    (gives : (o : Output) → HasOutputFrame links o → o.thread ≡ t → o.number ≡ j → found ≡ Some o) where
+  found_there : found ≡ Some there.output
+  found_there = gives there.output there.frame there.thread there.number
+
+  pub not_none : found ≡ None → ⊥
+  not_none none = not_both found there.output none found_there
+
+  pub taken_is : (x : Output) → found ≡ Some x → GoesNext links l t j → IsSentByPast w t j x × IsDue l.held x
+  taken_is x some goes =
+      let same = same_some found x there.output some found_there in (
+        subst (λ (z : Output). IsSentByPast w t j z) same there.of,
+        subst (λ (z : Output). IsDue l.held z) same
+            (goes.due there.output there.frame there.thread there.number),
+      )
 
 -- an output that was sent is so, where more were released
 more_released : (log : List Entry) (sent : Sending) (noted now_noted : List Numbers) (o : Sent)
@@ -182,6 +209,30 @@ module _ {P V : Type 0} (m : Meaning V) (s : Setting V) (w : World V) (y : Parts
               stays m s w y st (event.Out t j) outcome.Again reply out is
               (inr (here, (inr (inl (o, (sends, named), arrived_here (inl marked), refl, refl)), refl)))
 
+  -- it has not arrived, so its frame is on the links
+  pub frame_there : (HasArrivedThere y.logger t j → ⊥) → 1 ≤ j → j ≤ outputs t (sent_of w.past)
+      → IsOnLinks w y.sent t j
+  frame_there fresh from_one few = go (there_sent m s w y st t j from_one few)
+    where
+      go : (o : Sent) × SendsAfter w.past o.emission o.after × HasNumber t j o
+          × IsSentOutput (log_of w.past) y.logger.released y.sent o → IsOnLinks w y.sent t j
+      go (o, sends, named, sent) = at sent.there
+        where
+          at : HasOutputFrame y.sent sent.stamped
+              ⊎ ((frame_at y.sent.frames (output_address y.sent o.emission.thread o.emission.number) ≡ None)
+              × WasMarked y.logger.released o.emission.thread o.emission.number) → IsOnLinks w y.sent t j
+          at (inl h) = record {
+            output = sent.stamped;
+            frame = h;
+            thread = ap (λ (z : Emission). z.thread) sent.plain ∙ named.0;
+            number = ap (λ (z : Emission). z.number) sent.plain ∙ named.1;
+            of = record { sent = o; plain = sent.plain; stamp = sent.stamp; sends = sends; named = named };
+          }
+          at (inr (none, was)) =
+              let marked : WasMarked y.logger.released t j = subst (λ (k : ℕ). WasMarked y.logger.released t k) named.1
+              (subst (λ (u : ℕ). WasMarked y.logger.released u o.emission.number) named.0 was) in
+              absurd (fresh (inl marked))
+
   module _ (x : Output) (of : IsSentByPast w t j x) where
     pub own_thread : x.thread ≡ t
     own_thread = ap (λ (q : Emission). q.thread) of.plain ∙ of.named.0
@@ -189,7 +240,7 @@ module _ {P V : Type 0} (m : Meaning V) (s : Setting V) (w : World V) (y : Parts
     pub own_number : x.number ≡ j
     own_number = ap (λ (q : Emission). q.number) of.plain ∙ of.named.1
 
-    to_own : HasArrivedThere y.logger x.thread x.number → HasArrivedThere y.logger t j
+    pub to_own : HasArrivedThere y.logger x.thread x.number → HasArrivedThere y.logger t j
     to_own h = subst (λ (k : ℕ). HasArrivedThere y.logger t k) own_number
         (subst (λ (u : ℕ). HasArrivedThere y.logger u x.number) own_thread h)
 
@@ -459,6 +510,11 @@ pub pushed_parts : {P V : Type 0} (view now : Parts P V) (links : Sending) (logg
     ≡ record view { sent = links; logger = logger; released = names }
 pushed_parts view now links logger names name same is =
     ap (λ (l : List (ℕ × ℕ)). record view { sent = links; logger = logger; released = l }) (sym is)
+
+-- a system stands for the same world as its parts as its code has them
+pub stands_before : {P V : Type 0} (m : Meaning V) (s : Setting V) (w : World V) (view now : Parts P V) → view ≡ now
+    → StandsFor m s w now → StandsFor m s w view
+stands_before {P} {V} m s w view now same st = subst (λ (q : Parts P V). StandsFor m s w q) (sym same) st
 
 -- One answer is not another.
 

@@ -1,7 +1,8 @@
 -- What arrives at the output logger, and which frames are forgotten then.
-use Rattle.std.specs.Prelude.{◌≡◌, ℕ, ◌-◌, ◌≤◌, List, [], length, slice_get, slice_index_or, Some, None}
+use Rattle.std.specs.Prelude.{◌≡◌, ℕ, ◌+◌, ◌-◌, ◌≤◌, List, [], length, slice_get, slice_index_or, Some, None}
 use Rattle.plain_text.specs.declared.kind.Kind.{Kind}
 use Rattle.plain_text.specs.declared.kind.Kind.TheVariants as kind
+use Rattle.access_log.specs.declared.entry.Output.{Output}
 use Rattle.access_log.specs.Held.{Lane, lane, IsFrontier}
 use Rattle.dup_filter.specs.Numbers.{numbers}
 use Rattle.link_store.specs.Links.{frame_at}
@@ -10,7 +11,8 @@ use Rattle.recovery_world.specs.declared.event.Event.{Event}
 use Rattle.recovery_world.specs.declared.event.Event.TheVariants as event
 use Rattle.recovery_world.specs.declared.event.Outcome.TheVariants as outcome
 use Rattle.output_releases.specs.FromEventReplies.{Reply}
-use Rattle.link_store.specs.Sending.{Sending, entry_address, output_address}
+use Rattle.link_store.specs.Sending.{Sending, entry_address, output_address, HasOutputFrame}
+use Rattle.output_logger.specs.Logger.{Logger, IsDue, HasArrived}
 use Rattle.output_releases.specs.FromSystemParts.{Parts}
 use Rattle.output_releases.specs.Released.{AreForgotten}
 
@@ -31,6 +33,13 @@ pub record HadSent (ended : List (List Counts)) (epoch : ℕ) (k : Kind) (t n : 
   pub there : slice_get (slice_index_or ended (epoch - 1) []) t ≡ Some counts
   pub first : 1 ≤ n
   pub last : n ≤ counted k counts
+
+-- Output n of the thread is the next one of it to be released: all before it were. It has not arrived yet, and none of
+-- the log entries that it depends on is missing.
+pub record GoesNext (sent : Sending) (l : Logger) (t n : ℕ) : Type 0 where
+  pub next : n ≡ (numbers l.released t).floor + 1
+  pub fresh : HasArrived l t n → ⊥
+  pub due : (x : Output) → HasOutputFrame sent x → x.thread ≡ t → x.number ≡ n → IsDue l.held x
 
 -- No frame is on the links of an entry of the thread that is held or covered, and all before it too.
 abbrev pub KnownAreForgotten : Sending → List Lane → ℕ → Type 0

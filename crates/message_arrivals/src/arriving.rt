@@ -1,13 +1,16 @@
 ghost use Rattle.std.specs.Prelude.{◌≡◌, ◌<◌, ◌≤◌, ◌++◌, ◌↔◌, IsTrue, [], IfOk, OnOk, length};
 ghost use Rattle.recovery_world.specs.declared.event.Event.TheVariants as event_is;
-ghost use Rattle.output_releases.specs.FromSystemParts.{StandsForSome};
-ghost use Rattle.message_arrivals.specs.Arriving.{HadSent, arrival_of, ForgetsTaken};
+ghost use Rattle.plain_machine.specs.History.{sent_of, outputs};
+ghost use Rattle.recovery_world.specs.World.{Setting, World};
+ghost use Rattle.output_releases.specs.FromSystemParts.{StandsFor, StandsForSome};
+ghost use Rattle.message_arrivals.specs.Arriving.{HadSent, arrival_of, GoesNext, ForgetsTaken};
 ghost use Rattle.output_releases.specs.FromSystemParts.{Appends, MovesOn, Releasing, Replies};
 
 use access_log::Outputs;
 use box_program::Program;
+use link_store::SentFrames;
 use master_core::Counts;
-use output_logger::{EntryTook, OutputTook};
+use output_logger::{EntryTook, OutputLogger, OutputTook};
 use output_releases::{Core, Reply, forget_some, note_released, only};
 use plain_text::{Kind, NoMemory, Sequence};
 use recovery_world::Outcome;
@@ -57,6 +60,50 @@ fn take_entry<P: Program>(
     }
 }
 
+/// Whether an output is released as it arrives, as the next one of its thread.
+fn goes_next(sent: &SentFrames, logger: &OutputLogger, thread: u32, number: u64) -> bool
+    requires { 1 ≤ number }
+    ensures { IsTrue result → GoesNext sent.now logger.now thread number }
+{
+    let Some(output) = sent.told(thread, number) else {
+        return false;
+    };
+    logger.released().floor(thread) == number - 1
+        && !logger.has_arrived(thread, number)
+        && logger.held().missing(&output.stamp).is_none()
+}
+
+/// The next output of a thread arrives and is released: it is moved off the links.
+fn release_next<P: Program>(
+    core: &mut Core<P>,
+    thread: u32,
+    number: u64,
+    out: &mut Outputs,
+) -> Result<Reply, NoMemory>
+    requires stands { StandsForSome (P.meaning core.old.program) core.old }
+    requires thread_in { thread < core.old.inputs.threads }
+    requires numbered { 1 ≤ number }
+    requires made { (s : Setting P.Value) (w : World P.Value)
+        → StandsFor (P.meaning core.old.program) s w core.old
+        → number ≤ outputs thread (sent_of w.past) }
+    requires goes { GoesNext core.old.sent core.old.logger thread number }
+    ensures on { IfOk result (λ reply.
+        MovesOn (P.meaning core.old.program)
+        (Releasing out.old out.new (Replies (event_is.Out thread number) reply))
+        core.old core.new) }
+    ensures appends { Appends out.old out.new }
+    ensures forgets { IfOk result (λ reply. ForgetsTaken thread reply core.new) }
+{
+    let Some(output) = core.sent.take_output(thread, number)? else {
+        return Ok(only(core.alloc, Outcome::Again));
+    };
+    core.logger.send(output, out)?;
+    core.released.push((thread, number))?;
+    let floor = core.logger.released().floor(thread);
+    core.sent.forget_outputs(thread, floor);
+    Ok(only(core.alloc, Outcome::Released))
+}
+
 /// An output of a thread arrives at the output logger.
 fn take_output<P: Program>(
     core: &mut Core<P>,
@@ -75,6 +122,9 @@ fn take_output<P: Program>(
 {
     if number == 0 || number > core.master.counts(thread).outputs {
         return Ok(only(core.alloc, Outcome::Nothing));
+    }
+    if goes_next(&core.sent, &core.logger, thread, number) {
+        return release_next(core, thread, number, out);
     }
     let Some(output) = core.sent.output(thread, number)? else {
         return Ok(only(core.alloc, Outcome::Again));

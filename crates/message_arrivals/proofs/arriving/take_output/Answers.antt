@@ -7,7 +7,7 @@ use Rattle.output_releases.proofs.Answering.{counted, at_view, came, came_none}
 use Rattle.message_arrivals.proofs.EntryArrivals.{parts_still, same_parts}
 use Rattle.message_arrivals.proofs.OutputArrivals.{out_none, out_old, out_is, own_thread, own_number, out_again}
 use Rattle.message_arrivals.proofs.OutputArrivals.{out_released, out_waits, was_again, not_again_released}
-use Rattle.message_arrivals.proofs.OutputArrivals.{not_again_waits, waits_not_released, pushed_parts}
+use Rattle.message_arrivals.proofs.OutputArrivals.{not_again_waits, waits_not_released, pushed_parts, stands_before}
 use Rattle.output_releases.proofs.ForgottenOutputs.{forgets_own, stands_forgotten}
 use Rattle.message_arrivals.proofs.Forgetting.{forgets_none, forgets_released}
 use Rattle.message_arrivals.proofs.arriving.take_output.Goals as goal
@@ -156,3 +156,11 @@ returns-in_ok-push-in-Release-clause-forgets g c =
     forgets_released c.args.thread c.floor-floor.result c.only-in-Release.result _ _ c.only-in-Release.ensures
     (c.floor-floor.ensures.value ∙ ap (λ (l : List Numbers). (numbers l c.args.thread).floor) c.released.ensures)
     c.forget_outputs.ensures.forgets
+
+pub release_next-requires-clause-made : goal.release_next-requires-clause-made
+release_next-requires-clause-made g c κs within s w st =
+    let here = stands_before _ _ _ _ _ c.core.view_is st in
+    let low = subst (λ q. c.args.thread < q.inputs.threads) (sym c.core.view_is) c.requires.thread_in in
+    let count = counted _ s w _ here c.args.thread c.counts.result low c.counts.ensures in
+    let few = c.if-number-counts.false in
+    omega (arith, count.1, few)
