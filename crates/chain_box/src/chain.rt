@@ -14,7 +14,7 @@ use access_log::Outputs;
 use box_program::Program;
 use chain_world::ChainEvent;
 use plain_text::NoMemory;
-use recovery_core::{Finished, Reply, Stop, System};
+use recovery_core::{Finished, Memory, Reply, Stop, System};
 use std::marker::Model;
 
 /// Two recovering systems in a chain. The capture of the second is what the first has released.
@@ -151,18 +151,19 @@ impl<P: Program, Q: Program> Chain<P, Q> {
         self.second.discard();
     }
 
-    /// The runs that the script amounts to for each of the systems, once its last event was performed.
-    pub fn finish(self) -> Result<ChainFinished, NoMemory>
+    /// The runs that the script amounts to for each of the systems, once its last event was performed. `memory` says what
+    /// becomes of the systems'.
+    pub fn finish(self, memory: Memory) -> Result<ChainFinished, NoMemory>
         requires { self.stopped ≡ false }
         ensures { IfOk result (λ f. (s : Setting P.Value) (r : Setting Q.Value)
             (c : Chained P.Value Q.Value) → ChainStands (P.meaning self.first.parts.program)
             (Q.meaning self.second.parts.program) s r c self.first self.second
             → FinishesAs s c.first f.first × FinishesAs (behind r c.first) c.second f.second) }
     {
-        match self.first.finish() {
+        match self.first.finish(memory) {
             Ok(first) => Ok(ChainFinished {
                 first,
-                second: self.second.finish()?,
+                second: self.second.finish(memory)?,
             }),
             Err(no_memory) => {
                 self.second.discard();

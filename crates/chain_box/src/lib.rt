@@ -7,4 +7,4 @@ mod chain;
 mod passing;
 
 pub use chain::{Chain, ChainFinished, Passed};
-pub use recovery_core::{Finished, Reply, Stop, System, put_line};
+pub use recovery_core::{Finished, Memory, Reply, Stop, System, put_line};

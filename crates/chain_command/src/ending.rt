@@ -14,7 +14,7 @@ ghost use Rattle.chain_command.specs.Writes.{Finishes};
 
 use crate::opening::ChainNumbers;
 use box_program::Program;
-use chain_box::{Chain, ChainFinished, Finished};
+use chain_box::{Chain, ChainFinished, Finished, Memory};
 use output_files::{OutputError, append, report, write_lines};
 use plain_player::put_schedule;
 use plain_text::{Bytes, NoMemory};
@@ -138,7 +138,7 @@ pub fn close_chain<P: Program, Q: Program, W: World>(
         → KeepsOutputs (W.shows p world.old) (W.shows p world.new) }
     ensures before { (p : Start) → W.honest p world.new → W.honest p world.old }
 {
-    let finished = chain.finish()?;
+    let finished = chain.finish(Memory::Left)?;
     let closing = put_closing(alloc, &finished)?;
     let first = closing.first.as_slice();
     let second = closing.second.as_slice();

@@ -16,4 +16,5 @@ pub use event_replies::{Finished, Releases, Reply, Stop, put_line};
 pub use lacking::Lacks;
 pub use parting::{Kept, SystemParted};
 pub use system::System;
+pub use system_images::Memory;
 pub use system_rest::Rest;

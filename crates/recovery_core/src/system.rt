@@ -26,7 +26,7 @@ use several_events::{begin, perform_several, perform_single};
 use std::alloc::Global;
 use std::marker::Model;
 use std::mem;
-use system_images::{append, discard, end_awake, open_parts, wake};
+use system_images::{Memory, append, discard, end_awake, open_parts, wake};
 use system_parts::Core;
 
 /// A recovering system on the packets of a capture: an input logger, a master that runs a box, its snapshots, the links
@@ -77,13 +77,13 @@ fn perform<P: Program>(core: &mut Core<P>, event: Event, out: &mut Outputs) -> R
 
 /// The schedule of the run in which the world ends. Where the master is down, it is that of the one that would start
 /// now.
-fn end<P: Program>(mut core: Core<P>) -> Result<Schedule, NoMemory>
+fn end<P: Program>(mut core: Core<P>, memory: Memory) -> Result<Schedule, NoMemory>
     requires stands { StandsForSome (P.meaning core.program) core }
     ensures { IfOk result (λ moves. (s : Setting P.Value) (w : World P.Value)
         → StandsFor (P.meaning core.program) s w core → EndsIn s w moves) }
 {
     match wake(&mut core) {
-        Ok(()) => end_awake(core),
+        Ok(()) => end_awake(core, memory),
         Err(no_memory) => {
             discard(core);
             Err(no_memory)
@@ -290,8 +290,8 @@ impl<P: Program> System<P> {
 
     /// The run that the script amounts to, once its last event was performed: the schedule, and the counts of the last
     /// line of the report. Where the master is down, the schedule is that after one more recovery, and the counts are
-    /// those before it.
-    pub fn finish(self) -> Result<Finished, NoMemory>
+    /// those before it. `memory` says what becomes of the system's.
+    pub fn finish(self, memory: Memory) -> Result<Finished, NoMemory>
         requires { self.stopped ≡ false }
         ensures { IfOk result (λ f. (s : Setting P.Value) (w : World P.Value)
             → StandsFor (P.meaning self.parts.program) s w self.parts → FinishesAs s w f) }
@@ -300,7 +300,7 @@ impl<P: Program> System<P> {
         let epoch = self.core.logger.epoch();
         let released = self.core.released.len() as u64;
         Ok(Finished {
-            schedule: end(self.core)?,
+            schedule: end(self.core, memory)?,
             fed,
             epoch,
             released,

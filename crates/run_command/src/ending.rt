@@ -14,7 +14,7 @@ use box_program::Program;
 use output_files::OutputError;
 use plain_player::put_schedule;
 use plain_text::{Bytes, NoMemory};
-use recovery_core::{Finished, System};
+use recovery_core::{Finished, Memory, System};
 use run_writes::{put_done, write_closing};
 use std::alloc::Global;
 use world_io::World;
@@ -63,7 +63,7 @@ pub fn close_run<P: Program, W: World>(
         → KeepsOutputs (W.shows p world.old) (W.shows p world.new) }
     ensures before { (p : Start) → W.honest p world.new → W.honest p world.old }
 {
-    let finished = system.finish()?;
+    let finished = system.finish(Memory::Left)?;
     let closing = put_closing(alloc, &finished)?;
     let schedule = closing.schedule.as_slice();
     write_closing(world, file, lines, schedule, closing.last.as_slice())

@@ -15,6 +15,7 @@ use plain_text::NoMemory;
 use replay_guide::Guide;
 use run_end::finish_run;
 use std::alloc::Global;
+use std::mem::forget;
 use system_parts::Core;
 
 /// The followed entries, in the order in which they can be made.
@@ -58,6 +59,16 @@ fn last_ones<P: Program>(core: &Core<P>) -> Result<(Vec<LogEntry>, Vec<u64>), No
     Ok((order, numbers))
 }
 
+/// What becomes of the memory of a system whose run has ended.
+#[derive(Clone, Copy, Debug, Drop)]
+pub enum Memory {
+    /// It is given back: the process goes on.
+    GivenBack,
+    /// It is left as it is: the process ends soon, and its memory with it. To give back what was used in many small
+    /// pieces takes up to a tenth of the time of a run.
+    Left,
+}
+
 /// What the last moves of a run are made with.
 #[derive(Drop)]
 struct Last<P: Program> {
@@ -67,13 +78,30 @@ struct Last<P: Program> {
     schedule: Schedule,
 }
 
+/// Gives a value's memory back, or leaves it.
+fn let_go<T: Drop>(value: T, memory: Memory) {
+    match memory {
+        Memory::GivenBack => drop(value),
+        Memory::Left => forget(value),
+    }
+}
+
 /// Takes a system apart. What its last moves are not made with is let go.
-fn taken_apart<P: Program>(core: Core<P>) -> Last<P>
+fn taken_apart<P: Program>(core: Core<P>, memory: Memory) -> Last<P>
     ensures program { result.program ≡ core.program }
     ensures inputs { result.inputs ≡ core.inputs }
     ensures master { result.master ≡ core.master }
     ensures schedule { result.schedule ≡ core.schedule }
 {
+    let rest = (
+        core.left,
+        core.store,
+        core.guide,
+        core.sent,
+        core.logger,
+        core.released,
+    );
+    let_go(rest, memory);
     Last {
         program: core.program,
         inputs: core.inputs,
@@ -87,8 +115,8 @@ fn taken_apart<P: Program>(core: Core<P>) -> Last<P>
 /// A function that may end early gives them to this call: so how they are let go is proved once, here.
 pub fn discard<P: Program>(_core: Core<P>) {}
 
-/// The schedule of the run in which the world ends, of a master that is up.
-pub fn end_awake<P: Program>(core: Core<P>) -> Result<Schedule, NoMemory>
+/// The schedule of the run in which the world ends, of a master that is up; and what becomes of the system's memory.
+pub fn end_awake<P: Program>(core: Core<P>, memory: Memory) -> Result<Schedule, NoMemory>
     requires stands { StandsForSome (P.meaning core.program) core }
     requires up { core.up ≡ true }
     ensures { IfOk result (λ moves. (s : Setting P.Value) (w : World P.Value)
@@ -102,8 +130,8 @@ pub fn end_awake<P: Program>(core: Core<P>) -> Result<Schedule, NoMemory>
                 inputs,
                 master,
                 schedule,
-            } = taken_apart(core);
-            finish_run(
+            } = taken_apart(core, memory);
+            let ended = finish_run(
                 alloc,
                 &program,
                 &inputs,
@@ -111,7 +139,9 @@ pub fn end_awake<P: Program>(core: Core<P>) -> Result<Schedule, NoMemory>
                 schedule,
                 order.as_slice(),
                 numbers.as_slice(),
-            )
+            );
+            let_go((program, inputs), memory);
+            ended
         }
         Err(no_memory) => {
             discard(core);

@@ -3,4 +3,4 @@
 
 mod ending;
 
-pub use ending::{discard, end_awake};
+pub use ending::{Memory, discard, end_awake};

@@ -15,5 +15,5 @@ pub use imaging::image_of;
 pub use packet_feeds::append;
 pub use ready::readiness;
 pub use resuming::resume_parts;
-pub use system_end::{discard, end_awake};
+pub use system_end::{Memory, discard, end_awake};
 pub use system_opening::open_parts;

@@ -10,7 +10,7 @@ use box_program::Program;
 use event_replies::{Finished, put_line};
 use live_workers::Draws;
 use plain_text::{NoMemory, Unit};
-use recovery_core::System;
+use recovery_core::{Memory, System};
 use recovery_world::Event;
 use std::alloc::Global;
 use std::sync::Wait;
@@ -52,7 +52,7 @@ fn finish<P: Program>(mut system: System<P>) -> Option<End>
     requires { system.stopped ≡ false }
 {
     let released = system.take_released();
-    let finished = system.finish().ok()?;
+    let finished = system.finish(Memory::GivenBack).ok()?;
     Some(End { released, finished })
 }
 

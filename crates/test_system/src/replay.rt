@@ -3,7 +3,7 @@ ghost use Rattle.plain_text.specs.Packets.{IsShort};
 
 use box_program::Program;
 use plain_text::{Bytes, MOST_CAPTURED, NoMemory, Packet, Packets, Text, Unit, put_decimal};
-use recovery_core::{Finished, Reply, System, put_line};
+use recovery_core::{Finished, Memory, Reply, System, put_line};
 use recovery_world::Event;
 use script_text::read_script;
 use std::alloc::Global;
@@ -118,7 +118,7 @@ fn run_of<P: Program>(
 {
     let mut system = System::new(alloc, program, threads, false, SEED, Unit::Micro, packets)?;
     match perform_all(alloc, &mut system, events, report) {
-        Ok(true) => Ok(Some(system.finish()?)),
+        Ok(true) => Ok(Some(system.finish(Memory::GivenBack)?)),
         ended => {
             system.discard();
             ended.map(|_| None)

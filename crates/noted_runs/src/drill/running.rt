@@ -12,7 +12,7 @@ use crate::drill::performing::perform_all;
 use access_log::Outputs;
 use box_program::{Lent, Program};
 use plain_text::{NoMemory, Packets, Unit};
-use recovery_core::{Finished, Stop, System};
+use recovery_core::{Finished, Memory, Stop, System};
 use recovery_world::{Event, Outcome};
 use std::alloc::Global;
 
@@ -77,7 +77,7 @@ fn finish_run<P: Program>(system: System<P>, replayed: u64) -> Result<Ended, NoM
     let mut system = system;
     match show_first(&mut system) {
         Ok(shown) => Ok(Ended {
-            finished: system.finish()?,
+            finished: system.finish(Memory::GivenBack)?,
             replayed,
             shown,
         }),

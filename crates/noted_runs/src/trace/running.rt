@@ -10,7 +10,7 @@ use crate::trace::performing::{Departures, perform_all};
 use crate::trace::places::{Places, find_places};
 use box_program::Program;
 use plain_text::{NoMemory, Sequence};
-use recovery_core::{Finished, Lacks, Stop, System};
+use recovery_core::{Finished, Lacks, Memory, Stop, System};
 use recovery_world::Event;
 use std::alloc::Global;
 
@@ -134,7 +134,7 @@ pub fn run_events<P: Program>(
     let mut system = system;
     match go(alloc, &mut system, threads, events) {
         Ok((departures, seen)) => {
-            let finished = system.finish()?;
+            let finished = system.finish(Memory::Left)?;
             Ok(Gone {
                 departures,
                 seen,
