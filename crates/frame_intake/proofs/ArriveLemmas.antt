@@ -12,7 +12,7 @@ use Rattle.recovery_world.specs.Many.{Message}
 use Rattle.plan_script.specs.Orders.{Orders, AreLeft, IsLost, first_ones}
 use Rattle.plan_script.specs.Rounds.{of_thread}
 use Rattle.frame_intake.specs.Lost.{HaveLost, key_cmp, key_of}
-use Rattle.frame_intake.specs.Orders.{Arrive, TakesOneMore}
+use Rattle.frame_intake.specs.Orders.{AreSome, Arrive, TakesOneMore}
 use Rattle.frame_intake.proofs.TakenLemmas.{of_thread_append, of_own, of_other}
 
 -- what is left of frames, and one more
@@ -231,3 +231,28 @@ arrives_on o sent arriving new i f inside at put are stays takes =
     subst (λ (l : List Message). Arrive o (take (i + 1) sent) l) (sym put)
     (subst (λ (l : List Message). Arrive o l (arriving ++ f ∷ [])) (sent_more sent i f inside at)
     (one_arrives o (take i sent) arriving f are stays takes))
+
+-- Those that arrive stand in their order.
+
+some_less : (sent some : List Message) (f : Message) → AreSome sent some → AreSome (sent ++ f ∷ []) some
+some_less [] some f are = inl are
+some_less (x ∷ sent) some f (inl rest) = inl (some_less sent some f rest)
+some_less (x ∷ sent) some f (inr (others, is, rest)) = inr (others, is, some_less sent others f rest)
+
+some_more : (sent some : List Message) (f : Message) → AreSome sent some → AreSome (sent ++ f ∷ []) (some ++ f ∷ [])
+some_more [] some f are = inr ([], ap (λ (l : List Message). l ++ f ∷ []) are, refl)
+some_more (x ∷ sent) some f (inl rest) = inl (some_more sent some f rest)
+some_more (x ∷ sent) some f (inr (others, is, rest)) =
+    inr (others ++ f ∷ [], ap (λ (l : List Message). l ++ f ∷ []) is, some_more sent others f rest)
+
+pub left_on : (sent some : List Message) (i : ℕ) (f : Message) → i < length sent → f ≡ get_or sent i f
+    → AreSome (take i sent) some → AreSome (take (i + 1) sent) some
+left_on sent some i f inside at are =
+    subst (λ (l : List Message). AreSome l some) (sent_more sent i f inside at) (some_less (take i sent) some f are)
+
+pub kept_on : (sent some new : List Message) (i : ℕ) (f : Message) → i < length sent → f ≡ get_or sent i f
+    → new ≡ some ++ f ∷ [] → AreSome (take i sent) some → AreSome (take (i + 1) sent) new
+kept_on sent some new i f inside at put are =
+    subst (λ (l : List Message). AreSome (take (i + 1) sent) l) (sym put)
+    (subst (λ (l : List Message). AreSome l (some ++ f ∷ [])) (sent_more sent i f inside at)
+    (some_more (take i sent) some f are))

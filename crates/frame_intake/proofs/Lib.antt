@@ -1,4 +1,3 @@
 pub mod ArriveLemmas
 pub mod LostLemmas
-pub mod OpeningLemmas
 pub mod TakenLemmas

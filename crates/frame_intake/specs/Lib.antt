@@ -1,4 +1,2 @@
-pub mod Frames
-pub mod Intake
 pub mod Lost
 pub mod Orders

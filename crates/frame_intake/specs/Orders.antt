@@ -1,5 +1,5 @@
 -- The orders for a round, of at most 16 threads, as they stand in memory.
-use Rattle.std.specs.Prelude.{ℕ, ◌<◌, List, Option, Some, None, slice_index_or}
+use Rattle.std.specs.Prelude.{◌≡◌, ◌⊎◌, ℕ, ◌<◌, List, [], ◌∷◌, Option, Some, None, slice_index_or}
 use Rattle.recovery_world.specs.Many.{Message}
 use Rattle.plan_script.specs.Orders.{Orders, AreLeft, first_ones}
 use Rattle.plan_script.specs.Rounds.{of_thread}
@@ -28,3 +28,9 @@ TakesOneMore (Some most) before = before < most
 abbrev pub Arrive : Orders → List Message → List Message → Type 0
 Arrive orders sent arriving =
     (t : ℕ) → AreLeft orders.lost (first_ones (orders.frames t) (of_thread t sent)) (of_thread t arriving)
+
+-- Some of the frames, in their order.
+abbrev pub AreSome : List Message → List Message → Type 0
+AreSome [] some = some ≡ []
+AreSome (f ∷ frames) some =
+    AreSome frames some ⊎ ((rest : List Message) × (some ≡ f ∷ rest) × AreSome frames rest)

@@ -2,7 +2,7 @@
 ghost use Rattle.std.specs.Prelude.{◌≡◌, ◌↔◌, ◌+◌, ◌^◌, ◌<◌, ◌≤◌, ◌∷◌, ℕ, IfOk, IsTrue, OnErr};
 ghost use Rattle.std.specs.Prelude.{OnOk, slice_index, slice_set};
 ghost use Rattle.plan_script.specs.Orders.{but, no_orders};
-ghost use Rattle.frame_intake.specs.Orders.{orders_of, Arrive, TakesOneMore};
+ghost use Rattle.frame_intake.specs.Orders.{orders_of, AreSome, Arrive, TakesOneMore};
 
 use crate::frames::FrameName;
 use crate::lost::LostFrames;
@@ -134,7 +134,9 @@ impl RoundOrders {
 
     /// Which of the frames that were sent arrive, in their order.
     pub fn arriving(&self, alloc: Global, sent: &[FrameName]) -> Result<Vec<FrameName>, NoMemory>
-        ensures { IfOk result (λ arriving. Arrive (orders_of self.now) sent.now arriving.items) }
+        ensures arrive { IfOk result
+            (λ arriving. Arrive (orders_of self.now) sent.now arriving.items) }
+        ensures in_order { IfOk result (λ arriving. AreSome sent.now arriving.items) }
     {
         let lost = LostFrames::new(alloc, self.lost.as_slice())?;
         let mut counts = [0u64; THREADS];

@@ -4,9 +4,9 @@ use Rattle.std.proofs.lemmas.List.{length-take-le}
 use Rattle.recovery_world.specs.Many.{Message}
 use Rattle.plan_script.specs.Orders.{IsLost}
 use Rattle.frame_intake.specs.Lost.{HaveLost}
-use Rattle.frame_intake.specs.Orders.{orders_of, Arrive}
+use Rattle.frame_intake.specs.Orders.{orders_of, AreSome, Arrive}
 use Rattle.frame_intake.proofs.ArriveLemmas.{arrives_on, count_small, counted_on, lost_on, lost_told, out_on}
-use Rattle.frame_intake.proofs.ArriveLemmas.{takes_on}
+use Rattle.frame_intake.proofs.ArriveLemmas.{takes_on, kept_on, left_on}
 use Rattle.frame_intake.proofs.orders.RoundOrders.arriving.Goals as goal
 use Rattle.frame_intake.proofs.orders.RoundOrders.arriving.Goals.{then-takes+then-not-contains+in_ok-push, else-takes}
 use Rattle.frame_intake.proofs.orders.RoundOrders.arriving.Goals.{else-takes-via-then-takes+else-not-contains}
@@ -66,5 +66,17 @@ loop-frame-preserved c =
                   out_on orders sent c.loop-frame.arriving.items i f inside at was
                   (λ t. both_ways c.takes.result v.if-takes.false (takes.1 t))
             ])
+      ];
+      ordered = elim c.if-takes.branch [
+        | then-takes+then-not-contains+in_ok-push w ↦
+            let put =
+            ap (λ v. v.items) w.arriving-is
+            ∙ w.in_ok-push.ensures.items
+            ∙ ap (λ (m : Message). c.loop-frame.arriving.items ++ m ∷ []) c.frame.view_is in
+            kept_on sent c.loop-frame.arriving.items c.if-takes.arriving.items i f inside at put
+            c.loop-frame.invariant.ordered
+        | else-takes w ↦
+            subst (λ (l : List Message). AreSome (take (i + 1) sent) l) (ap (λ v. v.items) (sym w.arriving-is))
+            (left_on sent c.loop-frame.arriving.items i f inside at c.loop-frame.invariant.ordered)
       ];
     }
