@@ -5,7 +5,6 @@ use Rattle.std.proofs.lemmas.List.{length-append, reverse-reverse}
 use mathlib.Core.List.{reverse-cons}
 use Rattle.rand_pcg.specs.Lcg.{Lcg}
 use Rattle.var_locks.specs.Seats.{Seated}
-use Rattle.frame_intake.specs.Frames.{Posted}
 use Rattle.live_workers.specs.Working.{Given}
 use Rattle.live_workers.specs.Racing.{AreWorkers}
 
@@ -83,28 +82,23 @@ from_none : (n t : ℕ) → n ≡ 0 → n + t ≡ t
 from_none n t none = omega (arith, none)
 
 -- when all are taken
-module _ {V : Type 0} (seats : List (Seated V)) (generators : List Lcg) (outboxes : List Posted)
-    (limits : ℕ → Option ℕ) (seats_left : List (Seated V)) (generators_left : List Lcg)
-    (outboxes_left : List Posted) (done : List (Given V)) where
+module _ {V : Type 0} (seats : List (Seated V)) (generators : List Lcg) (limits : ℕ → Option ℕ)
+    (seats_left : List (Seated V)) (generators_left : List Lcg) (done : List (Given V)) where
   pub all_made : (n : ℕ) → n ≡ length seats_left → n ≡ 0 → length generators_left ≡ length seats_left
-      → length outboxes_left ≡ length seats_left → seats ≡ seats_left ++ map (λ w. w.seat) done
-      → generators ≡ generators_left ++ map (λ w. w.generator) done
-      → outboxes ≡ outboxes_left ++ map (λ w. w.outbox) done → AreLimitsFrom limits (length seats_left) done
-      → AreWorkers seats generators outboxes limits done
-  all_made n len len_none as_generators as_outboxes are_seats are_generators are_outboxes are_limits =
+      → seats ≡ seats_left ++ map (λ w. w.seat) done → generators ≡ generators_left ++ map (λ w. w.generator) done
+      → AreLimitsFrom limits (length seats_left) done → AreWorkers seats generators limits done
+  all_made n len len_none as_generators are_seats are_generators are_limits =
       let none : length seats_left ≡ 0 = sym len ∙ len_none in
       record {
         seats_are = all_taken seats seats_left (map (λ w. w.seat) done) are_seats none;
         generators_are = all_taken generators generators_left (map (λ w. w.generator) done) are_generators
             (as_generators ∙ none);
-        outboxes_are = all_taken outboxes outboxes_left (map (λ w. w.outbox) done) are_outboxes
-            (as_outboxes ∙ none);
         limits_are = λ t d within. are_limits t d within ∙ ap limits (from_none (length seats_left) t none);
       }
 
-pub all_reversed : {V : Type 0} (seats : List (Seated V)) (generators : List Lcg) (outboxes : List Posted)
-    (limits : ℕ → Option ℕ) (done made workers : List (Given V)) → made ≡ reverse done → workers ≡ reverse made
-    → AreWorkers seats generators outboxes limits done → AreWorkers seats generators outboxes limits workers
-all_reversed seats generators outboxes limits done made workers are turned all =
-    subst (λ (l : List (Given _)). AreWorkers seats generators outboxes limits l)
+pub all_reversed : {V : Type 0} (seats : List (Seated V)) (generators : List Lcg) (limits : ℕ → Option ℕ)
+    (done made workers : List (Given V)) → made ≡ reverse done → workers ≡ reverse made
+    → AreWorkers seats generators limits done → AreWorkers seats generators limits workers
+all_reversed seats generators limits done made workers are turned all =
+    subst (λ (l : List (Given _)). AreWorkers seats generators limits l)
     (sym (turned ∙ (ap reverse are ∙ reverse-reverse done))) all

@@ -6,5 +6,6 @@ pub mod RaceLemmas
 pub mod ReadyThreads
 pub mod RoundSteps
 pub mod Rounding
+pub mod SentFrames
 pub mod WorkingLemmas
 pub mod FromRoundJoin

@@ -9,22 +9,15 @@ use Rattle.access_log.specs.Held.{Lane}
 use Rattle.plain_machine.specs.Program.{Meaning}
 use Rattle.master_core.specs.declared.parts.ThreadPart.{ThreadPart}
 use Rattle.master_core.specs.Mastered.{Mastered, moves_made}
-use Rattle.recovery_world.specs.Many.{Message}
-use Rattle.plan_script.specs.Rounds.{of_thread}
 use Rattle.atomic_table.specs.Seated.{TableId}
 use Rattle.var_locks.specs.Rounds.{Opened}
 use Rattle.var_locks.specs.Seats.{Seated}
 use Rattle.var_locks.specs.Openings.{fresh_seat, fresh_seats}
 use Rattle.var_locks.specs.Closing.{AreSeats}
-use Rattle.round_join.specs.declared.noting.Made.{Made}
-use Rattle.frame_intake.specs.declared.frames.Sent.{Sent}
-use Rattle.frame_intake.specs.Frames.{Posted, all_posted, messages_of}
-use Rattle.frame_intake.specs.Intake.{AreAllTaken, AreBoxesOf}
-use Rattle.live_workers.specs.Frames.{frames_made}
 use Rattle.live_workers.specs.Moving.{HasInput}
 use Rattle.live_workers.specs.Working.{Given, Course, IsGiven}
-use Rattle.live_workers.specs.Racing.{AllEnded, AreLeftBy, AreReadyFor, AreWorkers, seat_of, moves_of, outbox_of}
-use Rattle.live_workers.proofs.EndedWorkers.{map_at, map_in, map_count, ended_count}
+use Rattle.live_workers.specs.Racing.{AllEnded, AreReadyFor, AreWorkers, seat_of}
+use Rattle.live_workers.proofs.EndedWorkers.{map_at, map_count}
 
 -- Fresh seats
 
@@ -57,13 +50,11 @@ map_both {A} {B} {C} f g (x ∷ xs) = ap (λ (l : List C). g (f x) ∷ l) (map_b
 
 -- How the workers begin
 
-module _ {V : Type 0} (vars : Opened) (lanes : List TableId) (inputs : ℕ → List Packet) (most : ℕ) (p : Mastered V)
-    (places : List ℕ) (parts : List ThreadPart) (seats : List (Seated V)) (generators : List Lcg)
-    (outboxes : List Posted) (limits : ℕ → Option ℕ) (workers : List (Given V))
-    (fresh : seats ≡ fresh_seats vars.round places 0 parts) (same : p.threads ≡ parts)
-    (all : vars.threads ≡ length parts) (boxes : AreBoxesOf lanes outboxes)
-    (empty : All (λ o. all_posted o ≡ []) outboxes) (ready : AreReadyFor most inputs p)
-    (are : AreWorkers seats generators outboxes limits workers) where
+module _ {V : Type 0} (vars : Opened) (inputs : ℕ → List Packet) (most : ℕ) (p : Mastered V) (places : List ℕ)
+    (parts : List ThreadPart) (seats : List (Seated V)) (generators : List Lcg) (limits : ℕ → Option ℕ)
+    (workers : List (Given V)) (fresh : seats ≡ fresh_seats vars.round places 0 parts) (same : p.threads ≡ parts)
+    (all : vars.threads ≡ length parts) (ready : AreReadyFor most inputs p)
+    (are : AreWorkers seats generators limits workers) where
   pub workers_count : length workers ≡ length parts
   workers_count =
       sym (map_count (λ (w : Given V). w.seat) workers) ∙ ap (λ (l : List (Seated V)). length l) (are.seats_are ∙ fresh)
@@ -94,37 +85,16 @@ module _ {V : Type 0} (vars : Opened) (lanes : List TableId) (inputs : ℕ → L
         ap (λ (l : List ThreadPart). slice_index_or l k d.seat.part) same
         ∙ sym (ap (λ (x : Seated V). x.part) seat_is)
 
-    outbox_is : (slice_index_or workers k d).outbox ≡ slice_index_or outboxes k d.outbox
-    outbox_is =
-        sym (map_at (λ (w : Given V). w.outbox) workers k d)
-        ∙ ap (λ (l : List Posted). slice_index_or l k d.outbox) are.outboxes_are
-
-    boxes_count : length outboxes ≡ length workers
-    boxes_count =
-        sym (ap (λ (l : List Posted). length l) are.outboxes_are)
-        ∙ map_count (λ (w : Given V). w.outbox) workers
-
-    in_boxes : k < length outboxes
-    in_boxes = let c = boxes_count in omega (arith, low, c)
-
-    pub is_given : (l : TableId)
-        → IsGiven vars (slice_index_or lanes (slice_index_or workers k d).seat.thread l) inputs most
-        (slice_index_or workers k d)
-    is_given l =
+    pub is_given : IsGiven vars inputs most (slice_index_or workers k d)
+    is_given =
         let at = ready k d.seat.part (let c = in_parts in let s = ap (λ (z : List ThreadPart). length z) same in
         omega (arith, c, s)) in
-        let lane : slice_index_or lanes k l ≡ (slice_index_or outboxes k d.outbox).sender.lane =
-        ap (λ (z : List TableId). slice_index_or z k l) (sym boxes)
-        ∙ map_in (λ (o : Posted). o.sender.lane) outboxes k l d.outbox in_boxes in
         record {
           seat = record {
             round_is = ap (λ (x : Seated V). x.round) seat_is;
             low = let t = thread_is in let c = in_parts in omega (arith, t, c, all);
           };
           none = ap (λ (x : Seated V). x.notes) seat_is;
-          lane_is = ap (λ (o : Posted). o.sender.lane) outbox_is ∙ sym lane
-              ∙ ap (λ (n : ℕ). slice_index_or lanes n l) (sym thread_is);
-          empty = ap all_posted outbox_is ∙ empty k d.outbox in_boxes;
           may = record {
             going = ap (λ (x : Seated V). x.ended) seat_is;
             input = subst (λ (n : ℕ). HasInput (inputs n) (slice_index_or workers k d).seat.part) (sym thread_is)
@@ -138,48 +108,6 @@ module _ {V : Type 0} (vars : Opened) (lanes : List TableId) (inputs : ℕ → L
 -- What their ends make of the round
 
 module _ {V : Type 0} (m : Meaning V) (guide : List Lane) (inputs : ℕ → List Packet) (may : ℕ → Type 0) (most : ℕ) where
-  lanes_same : (workers : List (Given V)) (courses : List (Course V))
-      → AllEnded m guide inputs may most workers courses
-      → map (λ (o : Posted). o.sender.lane) (map outbox_of courses)
-      ≡ map (λ (o : Posted). o.sender.lane) (map (λ (w : Given V). w.outbox) workers)
-  lanes_same [] [] ended = refl
-  lanes_same [] (c ∷ courses) ended = absurd ended
-  lanes_same (w ∷ workers) [] ended = absurd ended
-  lanes_same (w ∷ workers) (c ∷ courses) (one, rest) =
-      ap (λ (l : TableId). l ∷ map (λ (o : Posted). o.sender.lane) (map outbox_of courses)) one.come.lane
-      ∙ ap (λ (l : List TableId). w.outbox.sender.lane ∷ l) (lanes_same workers courses rest)
-
-  pub boxes_still : (workers : List (Given V)) (courses : List (Course V)) (lanes : List TableId)
-      (outboxes after : List Posted) → AllEnded m guide inputs may most workers courses
-      → map (λ (w : Given V). w.outbox) workers ≡ outboxes → AreBoxesOf lanes outboxes → after ≡ map outbox_of courses
-      → AreBoxesOf lanes after
-  boxes_still workers courses lanes outboxes after ended was boxes is =
-      ap (λ (l : List Posted). map (λ (o : Posted). o.sender.lane) l) is
-      ∙ lanes_same workers courses ended
-      ∙ ap (λ (l : List Posted). map (λ (o : Posted). o.sender.lane) l) was
-      ∙ boxes
-
-  all_sent : (workers : List (Given V)) (courses : List (Course V))
-      → AllEnded m guide inputs may most workers courses
-      → map all_posted (map outbox_of courses) ≡ map frames_made (map moves_of courses)
-  all_sent [] [] ended = refl
-  all_sent [] (c ∷ courses) ended = absurd ended
-  all_sent (w ∷ workers) [] ended = absurd ended
-  all_sent (w ∷ workers) (c ∷ courses) (one, rest) =
-      ap (λ (l : List Sent). l ∷ map all_posted (map outbox_of courses)) one.come.sent
-      ∙ ap (λ (l : List (List Sent)). frames_made c.moves ∷ l) (all_sent workers courses rest)
-
-  pub frames_of_all : (workers : List (Given V)) (courses : List (Course V)) (boxes : List Posted)
-      (moves : List (List Made)) (frames : List Message) → AllEnded m guide inputs may most workers courses
-      → boxes ≡ map outbox_of courses → moves ≡ map moves_of courses → AreAllTaken boxes frames → (t : ℕ)
-      → of_thread t frames ≡ messages_of t (frames_made (slice_index_or moves t []))
-  frames_of_all workers courses boxes moves frames ended boxes_are moves_are taken t =
-      taken t
-      ∙ ap (λ (l : List Posted). messages_of t (slice_index_or (map all_posted l) t [])) boxes_are
-      ∙ ap (λ (l : List (List Sent)). messages_of t (slice_index_or l t [])) (all_sent workers courses ended)
-      ∙ ap (λ (l : List Sent). messages_of t l) (map_at frames_made (map moves_of courses) t [])
-      ∙ ap (λ (l : List (List Made)). messages_of t (frames_made (slice_index_or l t []))) (sym moves_are)
-
   first_of : {A : Type 0} (x y : A) (xs ys : List A) → x ∷ xs ≡ y ∷ ys → x ≡ y
   first_of x y xs ys e = cc
 

@@ -1,10 +1,8 @@
--- What the steps of a round sent, and what their threads were told, by the moves that they are.
+-- How many moves the steps of a round are, and what their threads were told.
 use Rattle.std.proofs.Common.{◌≡◌, ◌≢◌, ℕ, zero, suc, ◌+◌, ◌≤◌, ◌⊎◌, inl, inr, List, [], ◌∷◌, ◌++◌, length, map, refl}
 use Rattle.std.proofs.Common.{sym, ap, ◌∙◌, subst, cond, Bool, true, false, nat_eq, Option, arith}
-use Rattle.std.proofs.lemmas.List.{map-append}
 use Rattle.rand_pcg.specs.Lcg.{Lcg}
 use Rattle.plain_text.specs.declared.packet.Packet.{Packet}
-use Rattle.plain_text.specs.declared.kind.Kind.TheVariants as kind
 use Rattle.entry_order.specs.Log.{Entry}
 use Rattle.entry_order.proofs.Order.{is_or}
 use Rattle.access_log.specs.Held.{Lane}
@@ -15,13 +13,8 @@ use Rattle.plain_machine.proofs.Histories.{did_entry, did_emission, is_eq, not_e
 use Rattle.master_core.specs.declared.step.Stepped.{Stepped}
 use Rattle.master_core.specs.declared.step.Stepped.TheVariants as stepped
 use Rattle.master_core.specs.Stepping.{plain_entry, emission_of_output}
-use Rattle.recovery_world.specs.Many.{Message}
-use Rattle.plan_script.specs.Rounds.{frames_by, frames_of}
 use Rattle.round_join.specs.declared.noting.Made.{Made}
 use Rattle.round_join.specs.Racing.{AreStepsOf, IsActOf, steps_by}
-use Rattle.frame_intake.specs.declared.frames.Sent.{Sent}
-use Rattle.frame_intake.specs.Frames.{message_of, messages_of}
-use Rattle.live_workers.specs.Frames.{frames_made, frames_shown}
 use Rattle.live_workers.specs.Telling.{AreTold, IsTold, IsToldBy}
 use Rattle.live_workers.specs.Rounds.{IsToldIn, StepsTold}
 
@@ -71,61 +64,6 @@ steps_count [] [] are = refl
 steps_count [] (x ∷ steps) are = absurd are
 steps_count (k ∷ moves) [] are = absurd are
 steps_count (k ∷ moves) (x ∷ steps) (is, are) = ap suc (steps_count moves steps are)
-
--- What they sent
-
-frames_same : {V : Type 0} (t : ℕ) (x : Step V) (r : Stepped) → x.thread ≡ t → IsOwned x → IsActOf r x.act
-    → frames_by x.act ≡ messages_of t (frames_shown r)
-frames_same {V} t x (stepped.Took k) of own is = ap (λ (a : Act V). frames_by a) is
-frames_same {V} t x (stepped.Did e) of own (left, is) =
-    let th : e.thread ≡ t = own.entry (plain_entry e) left is ∙ of in
-    ap (λ (a : Act V). frames_by a) is
-    ∙ ap (λ (u : ℕ). let f : Message = record { kind = kind.Log; thread = u; number = e.number } in f ∷ []) th
-frames_same {V} t x (stepped.Emitted o) of own is =
-    let th : o.thread ≡ t = own.output (emission_of_output o) is ∙ of in
-    ap (λ (a : Act V). frames_by a) is
-    ∙ ap (λ (u : ℕ). let f : Message = record { kind = kind.Out; thread = u; number = o.number } in f ∷ []) th
-frames_same {V} t x (stepped.Ended k) of own is = ap (λ (a : Act V). frames_by a) is
-frames_same t x stepped.Idle of own is = absurd is
-frames_same t x (stepped.NotTurn u n) of own is = absurd is
-frames_same t x stepped.NoMemory of own is = absurd is
-
-module _ {V : Type 0} (t : ℕ) (x : Step V) (steps : List (Step V)) (one : IsOwned x) (others : (l : List Made)
-    → AreStepsOf l (steps_by t steps) → frames_of t steps ≡ messages_of t (frames_made l)) where
-  mine : x.thread ≡ t → (l : List Made) → AreStepsOf l (x ∷ steps_by t steps)
-      → frames_of t steps ++ frames_by x.act ≡ messages_of t (frames_made l)
-  mine of [] is = absurd is
-  mine of (k ∷ l) (is, rest) =
-      ap (λ (f : List Message). f ++ frames_by x.act) (others l rest)
-      ∙ ap (λ (f : List Message). messages_of t (frames_made l) ++ f) (frames_same t x k.stepped of one is.act)
-      ∙ sym (map-append (message_of t) (frames_made l) (frames_shown k.stepped))
-
-  frames_step : (moves : List Made) → AreStepsOf moves (steps_by t (x ∷ steps))
-      → frames_of t (x ∷ steps) ≡ messages_of t (frames_made moves)
-  frames_step moves are = go (is_or x.thread t)
-    where
-      go : (x.thread ≡ t) ⊎ (x.thread ≢ t) → frames_of t (x ∷ steps) ≡ messages_of t (frames_made moves)
-      go (inl of) =
-          let b : nat_eq x.thread t ≡ true = is_eq x.thread t of in
-          ap (λ (c : Bool). cond c (frames_of t steps ++ frames_by x.act) (frames_of t steps)) b
-          ∙ mine of moves
-          (subst (λ (c : Bool). AreStepsOf moves (cond c (x ∷ steps_by t steps) (steps_by t steps))) b are)
-      go (inr other) =
-          let b : nat_eq x.thread t ≡ false = not_eq x.thread t other in
-          ap (λ (c : Bool). cond c (frames_of t steps ++ frames_by x.act) (frames_of t steps)) b
-          ∙ others moves
-          (subst (λ (c : Bool). AreStepsOf moves (cond c (x ∷ steps_by t steps) (steps_by t steps))) b are)
-
-no_frames : (V : Type 0) (t : ℕ) (moves : List Made) → AreStepsOf {V = V} moves []
-    → [] ≡ messages_of t (frames_made moves)
-no_frames V t [] are = refl
-no_frames V t (k ∷ moves) are = absurd are
-
-pub frames_are : {V : Type 0} (t : ℕ) (moves : List Made) (steps : List (Step V)) → AreOwned steps
-    → AreStepsOf moves (steps_by t steps) → frames_of t steps ≡ messages_of t (frames_made moves)
-frames_are {V} t moves [] own are = no_frames V t moves are
-frames_are {V} t moves (x ∷ steps) (one, own) are =
-    frames_step t x steps one (λ l is. frames_are t l steps own is) moves are
 
 -- What they were told
 

@@ -34,23 +34,22 @@ use Rattle.round_join.specs.declared.noting.Noted.{Noted}
 use Rattle.round_join.specs.Working.{AllWork}
 use Rattle.round_join.specs.Racing.{CameTo, Raced, steps_by}
 use Rattle.round_join.proofs.IdleThreads.{ends_idle}
-use Rattle.frame_intake.specs.Frames.{messages_of}
-use Rattle.frame_intake.specs.Orders.{Arrive}
-use Rattle.live_workers.specs.Frames.{frames_made}
+use Rattle.frame_intake.specs.Orders.{AreSome, Arrive}
+use Rattle.live_workers.specs.Frames.{frames_in, frames_noted}
 use Rattle.live_workers.specs.Telling.{AreTold}
 use Rattle.live_workers.specs.Moving.{IsAtRest}
 use Rattle.live_workers.specs.Working.{Given, Course, HasEnded, WhyEnded}
 use Rattle.live_workers.specs.Racing.{IsRace, seat_of, moves_of as moves_in, generator_of}
 use Rattle.live_workers.specs.Rounds.{RoundsRest, StepsTold}
 use Rattle.live_workers.proofs.EndedWorkers.{map_in, map_count, all_work, ended_count, ended_at, seat_at, seat_among}
-use Rattle.live_workers.proofs.RoundSteps.{steps_owned, count_by, moves_within, steps_count, frames_are, steps_told}
+use Rattle.live_workers.proofs.RoundSteps.{AreOwned, steps_owned, count_by, moves_within, steps_count, steps_told}
+use Rattle.live_workers.proofs.SentFrames.{frames_same, of_steps}
 
 -- some worker, and where it is, which stand for those that are not there
 nobody : {V : Type 0} → Seated V → Lcg → Given V
 nobody x g = record {
   seat = x;
   generator = g;
-  outbox = record { sender = record { lane = x.round; items = [] }; waiting = [] };
   limit = None;
 }
 
@@ -59,7 +58,6 @@ nowhere x g = record {
   seat = x;
   moves = [];
   generator = g;
-  outbox = record { sender = record { lane = x.round; items = [] }; waiting = [] };
 }
 
 no_hand : (o : Option Hand) → local_in o ≡ None → o ≡ None
@@ -70,24 +68,20 @@ no_hand (Some h) is = absurd (cc)
 pub race_with : {P V : Type 0} (meaning : P → Meaning V) (fits : P → ℕ → V → Type 0) (a b : P) (g h : List Lane)
     (i j : Fed) (may : ℕ → Type 0) (most : ℕ) (limits : ℕ → Option ℕ) (p : Mastered V) (before : List Lcg)
     (q : Mastered V) (marks : List (List (Option ℕ))) (moves : List (List Made)) (after : List Lcg)
-    (frames : List Message) → a ≡ b → g ≡ h → i ≡ j
-    → IsRace (meaning a) (fits a) g (inputs_of i) may most limits p before q marks moves after frames
-    → IsRace (meaning b) (fits b) h (inputs_of j) may most limits p before q marks moves after frames
-race_with {P} {V} meaning fits a b g h i j may most limits p before q marks moves after frames program guide
-    inputs race =
-    subst (λ (x : P). IsRace (meaning x) (fits x) h (inputs_of j) may most limits p before q marks moves after frames)
+    → a ≡ b → g ≡ h → i ≡ j → IsRace (meaning a) (fits a) g (inputs_of i) may most limits p before q marks moves after
+    → IsRace (meaning b) (fits b) h (inputs_of j) may most limits p before q marks moves after
+race_with {P} {V} meaning fits a b g h i j may most limits p before q marks moves after program guide inputs race =
+    subst (λ (x : P). IsRace (meaning x) (fits x) h (inputs_of j) may most limits p before q marks moves after)
     program
-    (subst
-    (λ (x : List Lane). IsRace (meaning a) (fits a) x (inputs_of j) may most limits p before q marks moves after frames)
+    (subst (λ (x : List Lane). IsRace (meaning a) (fits a) x (inputs_of j) may most limits p before q marks moves after)
     guide
-    (subst
-    (λ (x : Fed). IsRace (meaning a) (fits a) g (inputs_of x) may most limits p before q marks moves after frames)
+    (subst (λ (x : Fed). IsRace (meaning a) (fits a) g (inputs_of x) may most limits p before q marks moves after)
     inputs race))
 
 module _ {P V : Type 0} (m : Meaning V) (fits : ℕ → V → Type 0) (s : Setting V) (w : World V) (y : Parts P V)
     (may : ℕ → Type 0) (most : ℕ) (limits : ℕ → Option ℕ) (p : Mastered V) (before : List Lcg) (q : Mastered V)
-    (marks : List (List (Option ℕ))) (moves : List (List Made)) (after : List Lcg) (frames : List Message)
-    (race : IsRace m fits y.guide (inputs_of y.inputs) may most limits p before q marks moves after frames)
+    (marks : List (List (Option ℕ))) (moves : List (List Made)) (after : List Lcg)
+    (race : IsRace m fits y.guide (inputs_of y.inputs) may most limits p before q marks moves after)
     (rests : RestsFor m s w y) (up : w.up ≡ true) (opens : Stands s.meaning s.threads w.past p) where
   -- it is what the noting of a round asks for
   pub raced : Raced m fits s w p race.round (map seat_of race.courses) q marks moves y
@@ -244,17 +238,21 @@ module _ {P V : Type 0} (m : Meaning V) (fits : ℕ → V → Type 0) (s : Setti
         (subst (λ (z : Lcg). AreTold may y.guide t course.moves worker.generator z) (sym last)
         (subst (λ (u : ℕ). AreTold may y.guide u course.moves worker.generator course.generator) of end.come.told))))
 
-  -- the frames of each thread are those that its steps sent
-  pub frames_sent : (noted : List Noted) (new : Parts P V)
-      (came : CameTo m s w (map seat_of race.courses) q moves y.guide noted new) (t : ℕ)
-      → of_thread t frames ≡ frames_of t came.steps
-  frames_sent noted new came t =
+  owned : (noted : List Noted) (new : Parts P V)
+      (came : CameTo m s w (map seat_of race.courses) q moves y.guide noted new) → AreOwned came.steps
+  owned noted new came =
       let past : came.there.past ≡ came.steps ++ w.past = ap (λ (z : World V). z.past) came.after.world in
-      let owned = steps_owned s.meaning (inputs_fed s came.there.fed) s.threads came.steps w.past
+      steps_owned s.meaning (inputs_fed s came.there.fed) s.threads came.steps w.past
       (subst (λ (l : List (Step V)). IsHistory s.meaning (inputs_fed s came.there.fed) s.threads l) past
-      came.rests.sound.firm.legal) in
-      race.frames_are t
-      ∙ sym (frames_are t (slice_index_or moves t []) came.steps owned (came.each t))
+      came.rests.sound.firm.legal)
+
+  -- what is noted was sent by the steps
+  pub frames_are : (noted : List Noted) (new : Parts P V)
+      (came : CameTo m s w (map seat_of race.courses) q moves y.guide noted new)
+      → frames_noted noted ≡ frames_in came.steps
+  frames_are noted new came =
+      frames_same s w came.there noted came.steps came.performs (ap (λ (z : World V). z.past) came.after.world)
+      (owned noted new came)
 
   -- a seat and a generator that stand for those that are not there
   some_seat : Seated V
@@ -283,9 +281,9 @@ module _ {P V : Type 0} (m : Meaning V) (fits : ℕ → V → Type 0) (s : Setti
   pub rounds : (noted : List Noted) (new : Parts P V)
       (came : CameTo m s w (map seat_of race.courses) q moves y.guide noted new) → new.moves ≤ MOST_MOVES
       → y.moves + most ≡ MOST_MOVES + 1 → (orders : Orders) → ((t : ℕ) → limits t ≡ orders.moves t)
-      → (arriving : List Message) → Arrive orders frames arriving
-      → RoundsRest m s w orders may y.guide before noted arriving after q new
-  rounds noted new came few most_is orders limits_are arriving arrive = (
+      → (arriving : List Message) → Arrive orders (frames_noted noted) arriving
+      → AreSome (frames_noted noted) arriving → RoundsRest m s w orders may y.guide before noted arriving after q new
+  rounds noted new came few most_is orders limits_are arriving arrive in_order = (
     came.there,
     record {
       steps = came.steps;
@@ -299,8 +297,9 @@ module _ {P V : Type 0} (m : Meaning V) (fits : ℕ → V → Type 0) (s : Setti
           (λ t low. subst (λ (l : Option ℕ). HasStopped s came.there t l (moves_of t came.steps)) (none t low)
           (stops noted new came few most_is orders limits_are t low));
       arrive = λ t. subst (λ (l : List Message).
-          AreLeft orders.lost (first_ones (orders.frames t) l) (of_thread t arriving)) (frames_sent noted new came t)
-          (arrive t);
+          AreLeft orders.lost (first_ones (orders.frames t) l) (of_thread t arriving))
+          (ap (of_thread t) (frames_are noted new came) ∙ of_steps t came.steps (owned noted new came)) (arrive t);
+      in_order = subst (λ (l : List Message). AreSome l arriving) (frames_are noted new came) in_order;
       told = λ t g low. told noted new came t low some_seat g;
       count = ap (λ (l : List Lcg). length l) race.after_are ∙ map_count generator_of race.courses ∙ courses_count;
     },

@@ -27,9 +27,6 @@ use Rattle.round_events.specs.Done.{IsDone, AreDone}
 use Rattle.round_events.specs.Shown.{IsShown}
 use Rattle.round_join.specs.declared.noting.Made.{Made}
 use Rattle.round_join.specs.Working.{AreMadeBy, Works}
-use Rattle.frame_intake.specs.declared.frames.Sent.{Sent}
-use Rattle.frame_intake.specs.Frames.{Posted, all_posted}
-use Rattle.live_workers.specs.Frames.{frames_made, frames_shown}
 use Rattle.live_workers.specs.Telling.{IsTold, AreTold}
 use Rattle.live_workers.specs.Moving.{ComesTo, HasInput, IsAtRest, IsFedTo, IsHeld, OneMore, answer_shown, made_by}
 use Rattle.live_workers.specs.Working.{Given, Course, GoesOn, HasCome, HasEnded, MadeOne, MadeNone, WhyEnded}
@@ -138,9 +135,7 @@ answer_is m t n stepped.NoMemory is = absurd is
 module _ {V : Type 0} (m : Meaning V) (guide : List Lane) (inputs : ℕ → List Packet) (may : ℕ → Type 0)
     (old new : Course V) (r : Stepped)
     (more : OneMore m guide (inputs old.seat.thread) may old.seat old.generator new.seat new.generator r)
-    (moves : new.moves ≡ made_by old.seat.thread r ∷ old.moves)
-    (posted : all_posted new.outbox ≡ all_posted old.outbox ++ frames_shown r)
-    (lane : new.outbox.sender.lane ≡ old.outbox.sender.lane) where
+    (moves : new.moves ≡ made_by old.seat.thread r ∷ old.moves) where
   thread_is : new.seat.thread ≡ old.seat.thread
   thread_is = ap (λ (z : Seated V). z.thread) more.seat
 
@@ -178,9 +173,6 @@ module _ {V : Type 0} (m : Meaning V) (guide : List Lane) (inputs : ℕ → List
       come.told,
       subst (λ (t : ℕ). IsTold may guide t r old.generator new.generator) come.thread more.told,
     );
-    lane = lane ∙ come.lane;
-    sent = posted ∙ ap (λ (l : List Sent). l ++ frames_shown r) come.sent
-        ∙ sym (ap frames_made moves);
   }
 
   pub made_one : HasInput (inputs old.seat.thread) old.seat.part → MadeOne inputs old new
@@ -201,8 +193,7 @@ module _ {V : Type 0} (m : Meaning V) (guide : List Lane) (inputs : ℕ → List
 -- None
 
 module _ {V : Type 0} (m : Meaning V) (guide : List Lane) (inputs : ℕ → List Packet) (may : ℕ → Type 0)
-    (old new : Course V) (moves : new.moves ≡ old.moves) (generator : new.generator ≡ old.generator)
-    (outbox : new.outbox ≡ old.outbox) where
+    (old new : Course V) (moves : new.moves ≡ old.moves) (generator : new.generator ≡ old.generator) where
   come_same : (given : Given V) → HasCome m guide inputs may given old → new.seat.thread ≡ old.seat.thread
       → new.seat.round ≡ old.seat.round → Works m guide inputs given.seat.part new.seat new.moves
       → HasCome m guide inputs may given new
@@ -213,8 +204,6 @@ module _ {V : Type 0} (m : Meaning V) (guide : List Lane) (inputs : ℕ → List
     told = subst (λ (g : Lcg). AreTold may guide given.seat.thread new.moves given.generator g) (sym generator)
         (subst (λ (l : List Made). AreTold may guide given.seat.thread l given.generator old.generator) (sym moves)
         come.told);
-    lane = ap (λ (o : Posted). o.sender.lane) outbox ∙ come.lane;
-    sent = ap all_posted outbox ∙ come.sent ∙ sym (ap frames_made moves);
   }
 
   pub rest_come : new.seat ≡ old.seat → (given : Given V) → HasCome m guide inputs may given old
@@ -256,10 +245,9 @@ module _ {V : Type 0} (m : Meaning V) (guide : List Lane) (inputs : ℕ → List
   pub go_more : (r : Stepped) (thread : ℕ) (seat : Seated V) (g : Lcg)
       → OneMore m guide (inputs old.seat.thread) may old.seat old.generator seat g r → thread ≡ old.seat.thread
       → new.seat ≡ seat → new.generator ≡ g → new.moves ≡ made_by thread r ∷ old.moves
-      → all_posted new.outbox ≡ all_posted old.outbox ++ frames_shown r
-      → new.outbox.sender.lane ≡ old.outbox.sender.lane → HasInput (inputs old.seat.thread) old.seat.part
+      → HasInput (inputs old.seat.thread) old.seat.part
       → GoneOn m guide inputs may now new (MadeOne inputs now new)
-  go_more r thread seat g more thread_is seat_is g_is moves posted lane has =
+  go_more r thread seat g more thread_is seat_is g_is moves has =
       let one : OneMore m guide (inputs old.seat.thread) may old.seat old.generator new.seat new.generator r =
       subst (λ (x : Seated V). OneMore m guide (inputs old.seat.thread) may old.seat old.generator x new.generator r)
       (sym seat_is)
@@ -272,21 +260,18 @@ module _ {V : Type 0} (m : Meaning V) (guide : List Lane) (inputs : ℕ → List
           thread = ap (λ (z : Seated V). z.thread) one.seat;
           round_is = ap (λ (z : Seated V). z.round) one.seat;
           ended_is = ap (λ (z : Seated V). z.ended) one.seat ∙ going;
-          lane = lane;
         };
-        come = come_more m guide inputs may old new r one mine posted lane;
-        made = made_one m guide inputs may old new r one mine posted lane has;
+        come = come_more m guide inputs may old new r one mine;
+        made = made_one m guide inputs may old new r one mine has;
       })
 
-  module _ (moves : new.moves ≡ old.moves) (generator : new.generator ≡ old.generator)
-      (outbox : new.outbox ≡ old.outbox) where
+  module _ (moves : new.moves ≡ old.moves) (generator : new.generator ≡ old.generator) where
     same_goes : (thread : new.seat.thread ≡ old.seat.thread) → new.seat.round ≡ old.seat.round
         → new.seat.ended ≡ old.seat.ended → GoesOn old new
     same_goes thread round ended = record {
       thread = thread;
       round_is = round;
       ended_is = ended ∙ going;
-      lane = ap (λ (o : Posted). o.sender.lane) outbox;
     }
 
     pub go_rest : new.seat ≡ old.seat → IsAtRest (inputs old.seat.thread) old.seat.part
@@ -295,8 +280,8 @@ module _ {V : Type 0} (m : Meaning V) (guide : List Lane) (inputs : ℕ → List
         subst (λ (z : Course V). GoneOn m guide inputs may z new (MadeNone m guide inputs z new)) is (record {
           goes = same_goes (ap (λ (x : Seated V). x.thread) seat) (ap (λ (x : Seated V). x.round) seat)
               (ap (λ (x : Seated V). x.ended) seat);
-          come = rest_come m guide inputs may old new moves generator outbox seat;
-          made = rest_none m guide inputs may old new moves generator outbox seat rest;
+          come = rest_come m guide inputs may old new moves generator seat;
+          made = rest_none m guide inputs may old new moves generator seat rest;
         })
 
     pub go_held : IsHeld m guide old.seat new.seat
@@ -305,8 +290,8 @@ module _ {V : Type 0} (m : Meaning V) (guide : List Lane) (inputs : ℕ → List
         subst (λ (z : Course V). GoneOn m guide inputs may z new (MadeNone m guide inputs z new)) is (record {
           goes = same_goes (ap (λ (x : Seated V). x.thread) held.seat) (ap (λ (x : Seated V). x.round) held.seat)
               (ap (λ (x : Seated V). x.ended) held.seat);
-          come = held_come m guide inputs may old new moves generator outbox held;
-          made = held_none m guide inputs may old new moves generator outbox held;
+          come = held_come m guide inputs may old new moves generator held;
+          made = held_none m guide inputs may old new moves generator held;
         })
 
 -- a call that made a move, by what it answered
@@ -337,19 +322,19 @@ pub go_idle : {V : Type 0} (m : Meaning V) (guide : List Lane) (inputs : ℕ →
     (now old new : Course V) (is : old ≡ now) (going : old.seat.ended ≡ false) (r : Stepped) (seat : Seated V) (g : Lcg)
     → (r ≡ stepped.Idle) ⊎ ((u : ℕ) × (n : ℕ) × (r ≡ stepped.NotTurn u n))
     → ComesTo m guide (inputs old.seat.thread) may old.seat old.generator seat g r
-    → new ≡ record { seat = seat; moves = old.moves; generator = g; outbox = old.outbox }
+    → new ≡ record { seat = seat; moves = old.moves; generator = g }
     → GoneOn m guide inputs may now new (MadeNone m guide inputs now new)
 go_idle {V} m guide inputs may now old new is going r seat g (inl idle) come new_is =
     let k = subst (λ (z : Stepped). ComesTo m guide (inputs old.seat.thread) may old.seat old.generator seat g z) idle
     come in
     go_rest m guide inputs may now old new is going (ap (λ (c : Course V). c.moves) new_is)
-    (ap (λ (c : Course V). c.generator) new_is ∙ k.1) (ap (λ (c : Course V). c.outbox) new_is)
+    (ap (λ (c : Course V). c.generator) new_is ∙ k.1)
     (ap (λ (c : Course V). c.seat) new_is ∙ k.0) k.2
 go_idle {V} m guide inputs may now old new is going r seat g (inr (u, n, waits)) come new_is =
     let k = subst (λ (z : Stepped). ComesTo m guide (inputs old.seat.thread) may old.seat old.generator seat g z) waits
     come in
     go_held m guide inputs may now old new is going (ap (λ (c : Course V). c.moves) new_is)
-    (ap (λ (c : Course V). c.generator) new_is ∙ k.1) (ap (λ (c : Course V). c.outbox) new_is)
+    (ap (λ (c : Course V). c.generator) new_is ∙ k.1)
     (subst (λ (x : Seated V). IsHeld m guide old.seat x) (sym (ap (λ (c : Course V). c.seat) new_is)) k.0)
 
 -- How a worker begins, and how it ends
@@ -366,9 +351,8 @@ module _ {V : Type 0} (m : Meaning V) (guide : List Lane) (inputs : ℕ → List
       }
 
   pub begun : (given : Given V) (start : Course V) → start.seat ≡ given.seat → start.moves ≡ []
-      → start.generator ≡ given.generator → start.outbox ≡ given.outbox → given.seat.notes ≡ []
-      → all_posted given.outbox ≡ [] → HasCome m guide inputs may given start
-  begun given start seat moves generator outbox none empty = record {
+      → start.generator ≡ given.generator → given.seat.notes ≡ [] → HasCome m guide inputs may given start
+  begun given start seat moves generator none = record {
     thread = ap (λ (x : Seated V). x.thread) seat;
     round_is = ap (λ (x : Seated V). x.round) seat;
     works = subst (λ (l : List Made). Works m guide inputs given.seat.part start.seat l) (sym moves)
@@ -376,8 +360,6 @@ module _ {V : Type 0} (m : Meaning V) (guide : List Lane) (inputs : ℕ → List
         (fresh_works given.seat.part given.seat [] none refl refl));
     told = subst (λ (l : List Made). AreTold may guide given.seat.thread l given.generator start.generator) (sym moves)
         generator;
-    lane = ap (λ (o : Posted). o.sender.lane) outbox;
-    sent = ap all_posted outbox ∙ empty ∙ sym (ap frames_made moves);
   }
 
   stuck_still : (x : Seated V) (made most : ℕ) (limit : Option ℕ) → WhyEnded m guide inputs most limit x made
@@ -403,17 +385,15 @@ module _ {V : Type 0} (m : Meaning V) (guide : List Lane) (inputs : ℕ → List
       → ((n : ℕ) → limit ≡ Some n → length now.moves ≤ n)
       → WhyEnded m guide inputs most limit now.seat (length now.moves)
       → HasEnded m guide inputs may most given
-      (record { seat = seat; moves = now.moves; generator = now.generator; outbox = now.outbox })
+      (record { seat = seat; moves = now.moves; generator = now.generator })
   has_ended most given limit now seat limit_is seat_is come few why =
       subst (λ (x : Seated V). HasEnded m guide inputs may most given
-      (record { seat = x; moves = now.moves; generator = now.generator; outbox = now.outbox })) (sym seat_is) (record {
+      (record { seat = x; moves = now.moves; generator = now.generator })) (sym seat_is) (record {
         come = record {
           thread = come.thread;
           round_is = come.round_is;
           works = record { done = come.works.done; fed = come.works.fed; made = come.works.made };
           told = come.told;
-          lane = come.lane;
-          sent = come.sent;
         };
         ended = refl;
         few = λ n is. few n (sym limit_is ∙ is);

@@ -7,14 +7,10 @@ use Rattle.access_log.specs.Held.{Lane}
 use Rattle.plain_machine.specs.Program.{Meaning}
 use Rattle.master_core.specs.declared.parts.ThreadPart.{ThreadPart}
 use Rattle.master_core.specs.Mastered.{Mastered, moves_made}
-use Rattle.recovery_world.specs.Many.{Message}
-use Rattle.plan_script.specs.Rounds.{of_thread}
 use Rattle.atomic_table.specs.Seated.{TableId}
 use Rattle.var_locks.specs.Seats.{Seated}
 use Rattle.var_locks.specs.Closing.{AreSeats, IsClosed, seat_marks}
 use Rattle.round_join.specs.declared.noting.Made.{Made}
-use Rattle.frame_intake.specs.Frames.{Posted, messages_of}
-use Rattle.live_workers.specs.Frames.{frames_made}
 use Rattle.live_workers.specs.Moving.{HasInput}
 use Rattle.live_workers.specs.Working.{Given, Course, HasEnded}
 
@@ -37,24 +33,19 @@ moves_of c = c.moves
 abbrev pub generator_of : {V : Type 0} → Course V → Lcg
 generator_of c = c.generator
 
-abbrev pub outbox_of : {V : Type 0} → Course V → Posted
-outbox_of c = c.outbox
-
--- Workers for these seats, generators and outboxes, with the most moves that are ordered of each thread.
-pub record AreWorkers {V : Type 0} (seats : List (Seated V)) (generators : List Lcg) (outboxes : List Posted)
+-- Workers for these seats and generators, with the most moves that are ordered of each thread.
+pub record AreWorkers {V : Type 0} (seats : List (Seated V)) (generators : List Lcg)
     (limits : ℕ → Option ℕ) (workers : List (Given V)) : Type 0 where
   pub seats_are : map (λ w. w.seat) workers ≡ seats
   pub generators_are : map (λ w. w.generator) workers ≡ generators
-  pub outboxes_are : map (λ w. w.outbox) workers ≡ outboxes
   pub limits_are : (t : ℕ) (d : Given V) → t < length workers → (slice_index_or workers t d).limit ≡ limits t
 
 -- what is left of workers that came so far, by thread
 pub record AreLeftBy {V : Type 0} (courses : List (Course V)) (seats : List (Seated V)) (moves : List (List Made))
-    (generators : List Lcg) (outboxes : List Posted) : Type 0 where
+    (generators : List Lcg) : Type 0 where
   pub seats_are : seats ≡ map seat_of courses
   pub moves_are : moves ≡ map moves_of courses
   pub generators_are : generators ≡ map generator_of courses
-  pub outboxes_are : outboxes ≡ map outbox_of courses
 
 -- each ended the round
 abbrev pub AllEnded : {V : Type 0} → Meaning V → List Lane → (ℕ → List Packet) → (ℕ → Type 0) → ℕ → List (Given V)
@@ -73,11 +64,10 @@ pub record AllAnswered {V E : Type 0} (m : Meaning V) (guide : List Lane) (input
       → IfOk (slice_index_or answers i e) (λ end. HasEnded m guide inputs may most (slice_index_or workers i d) end)
 
 -- A race from master p to master q: its workers began with the parts of p, with these generators and limits, and each
--- ended; their seats closed the round, and their frames were taken.
+-- ended, and their seats closed the round.
 pub record IsRace {V : Type 0} (m : Meaning V) (fits : ℕ → V → Type 0) (guide : List Lane) (inputs : ℕ → List Packet)
     (may : ℕ → Type 0) (most : ℕ) (limits : ℕ → Option ℕ) (p : Mastered V) (before : List Lcg) (q : Mastered V)
-    (marks : List (List (Option ℕ))) (moves : List (List Made)) (after : List Lcg)
-    (frames : List Message) : Type 0 where
+    (marks : List (List (Option ℕ))) (moves : List (List Made)) (after : List Lcg) : Type 0 where
   pub round : TableId
   pub workers : List (Given V)
   pub courses : List (Course V)
@@ -90,4 +80,3 @@ pub record IsRace {V : Type 0} (m : Meaning V) (fits : ℕ → V → Type 0) (gu
   pub marks_are : marks ≡ map seat_marks (map seat_of courses)
   pub moves_are : moves ≡ map moves_of courses
   pub after_are : after ≡ map generator_of courses
-  pub frames_are : (t : ℕ) → of_thread t frames ≡ messages_of t (frames_made (slice_index_or moves t []))

@@ -20,6 +20,8 @@ use Rattle.round_join.specs.declared.noting.Noted.{Noted}
 use Rattle.round_join.specs.Racing.{IsAfterSteps, PerformsNoted, StoppedAt, events_noted, steps_by}
 use Rattle.live_workers.specs.declared.rounds.RoundStop.{RoundStop}
 use Rattle.live_workers.specs.declared.rounds.RoundStop.TheVariants as stop
+use Rattle.frame_intake.specs.Orders.{AreSome}
+use Rattle.live_workers.specs.Frames.{frames_in}
 use Rattle.live_workers.specs.Telling.{IsToldBy}
 
 -- what the move of thread t was told, and how the generator of the thread went on
@@ -54,6 +56,8 @@ pub record IsRoundTo {V : Type 0} (s : Setting V) (w : World V) (orders : Orders
   pub stopped : (t : ℕ) → t < s.threads → HasStopped s there t (orders.moves t) (moves_of t steps)
   pub idle : ((t : ℕ) → t < s.threads → orders.moves t ≡ None) → AreIdle s there
   pub arrive : (t : ℕ) → AreLeft orders.lost (first_ones (orders.frames t) (frames_of t steps)) (of_thread t arriving)
+  -- they arrive in the order of the steps that sent them
+  pub in_order : AreSome (frames_in steps) arriving
   pub told : (t : ℕ) (g : Lcg) → t < s.threads
       → StepsTold may guide t (steps_by t steps) (slice_index_or before t g) (slice_index_or after t g)
   pub count : length after ≡ s.threads

@@ -1,12 +1,10 @@
 -- What a worker of a round is given, where it is in the course of its thread's moves, and what it leaves.
 use Rattle.std.specs.Prelude.{◌≡◌, ◌⊎◌, ℕ, ◌+◌, ◌<◌, ◌≤◌, ◌^◌, false, true, List, [], length, Option, Some}
-use Rattle.std.specs.Prelude.{slice_index_or}
 use Rattle.rand_pcg.specs.Lcg.{Lcg}
 use Rattle.plain_text.specs.declared.packet.Packet.{Packet}
 use Rattle.access_log.specs.Held.{Lane}
 use Rattle.plain_machine.specs.Program.{Meaning}
 use Rattle.master_core.specs.Mastered.{moves_made}
-use Rattle.atomic_table.specs.Seated.{TableId}
 use Rattle.var_locks.specs.declared.view.MissedEntry.{MissedEntry}
 use Rattle.var_locks.specs.Rounds.{Opened}
 use Rattle.var_locks.specs.Seats.{Seated, IsSeatOf}
@@ -15,39 +13,32 @@ use Rattle.round_join.specs.declared.noting.Made.{Made}
 use Rattle.round_join.specs.Working.{Works}
 use Rattle.live_workers.specs.Telling.{AreTold}
 use Rattle.live_workers.specs.Moving.{HasInput, IsAtRest}
-use Rattle.frame_intake.specs.Frames.{Posted, all_posted}
-use Rattle.live_workers.specs.Frames.{frames_made}
 
--- What a worker is given: the seat of its thread, which did nothing yet, the thread's generator and its outbox, and how
--- many moves it makes at most, where there is such an order.
+-- What a worker is given: the seat of its thread, which did nothing yet, the thread's generator, and how many moves it
+-- makes at most, where there is such an order.
 pub record Given (V : Type 0) : Type 0 where
   pub seat : Seated V
   pub generator : Lcg
-  pub outbox : Posted
   pub limit : Option ℕ
 
--- what it has in the course of the round, and at the end: the seat, what its thread did, newest first, the generator
--- and the outbox
+-- what it has in the course of the round, and at the end: the seat, what its thread did, newest first, and the generator
 pub record Course (V : Type 0) : Type 0 where
   pub seat : Seated V
   pub moves : List Made
   pub generator : Lcg
-  pub outbox : Posted
 
 -- how a worker begins
 abbrev pub course_of : {V : Type 0} → Given V → Course V
 course_of given =
-    record { seat = given.seat; moves = []; generator = given.generator; outbox = given.outbox }
+    record { seat = given.seat; moves = []; generator = given.generator }
 
--- The worker of this seat came so far: what its thread did, what it was told, and the frames that it sent.
+-- The worker of this seat came so far: what its thread did, and what it was told.
 pub record HasCome {V : Type 0} (m : Meaning V) (guide : List Lane) (inputs : ℕ → List Packet) (may : ℕ → Type 0)
     (given : Given V) (now : Course V) : Type 0 where
   pub thread : now.seat.thread ≡ given.seat.thread
   pub round_is : now.seat.round ≡ given.seat.round
   pub works : Works m guide inputs given.seat.part now.seat now.moves
   pub told : AreTold may guide given.seat.thread now.moves given.generator now.generator
-  pub lane : now.outbox.sender.lane ≡ given.outbox.sender.lane
-  pub sent : all_posted now.outbox ≡ frames_made now.moves
 
 -- It can go on, until it has made so many moves.
 pub record MayGoOn {V : Type 0} (inputs : ℕ → List Packet) (most : ℕ) (now : Course V) : Type 0 where
@@ -70,27 +61,17 @@ pub record HasEnded {V : Type 0} (m : Meaning V) (guide : List Lane) (inputs : �
   pub few : (n : ℕ) → given.limit ≡ Some n → length end.moves ≤ n
   pub why : WhyEnded m guide inputs most given.limit end.seat (length end.moves)
 
--- The worker is given the fresh seat of a thread of these variables, an empty outbox of this lane, and room for so many
--- moves.
-pub record IsGiven {V : Type 0} (vars : Opened) (lane : TableId) (inputs : ℕ → List Packet) (most : ℕ)
-    (given : Given V) : Type 0 where
+-- The worker is given the fresh seat of a thread of these variables, and room for so many moves.
+pub record IsGiven {V : Type 0} (vars : Opened) (inputs : ℕ → List Packet) (most : ℕ) (given : Given V) : Type 0 where
   pub seat : IsSeatOf vars given.seat
   pub none : given.seat.notes ≡ []
-  pub lane_is : given.outbox.sender.lane ≡ lane
-  pub empty : all_posted given.outbox ≡ []
   pub may : MayGoOn inputs most (course_of given)
-
--- the lane is the one of its thread
-abbrev pub IsGivenAmong : {V : Type 0} → Opened → List TableId → (ℕ → List Packet) → ℕ → Given V → Type 0
-IsGivenAmong vars lanes inputs most given =
-    (d : TableId) → IsGiven vars (slice_index_or lanes given.seat.thread d) inputs most given
 
 -- What a step of a worker keeps: the seat is of its thread and of its round, which it has not ended.
 pub record GoesOn {V : Type 0} (old new : Course V) : Type 0 where
   pub thread : new.seat.thread ≡ old.seat.thread
   pub round_is : new.seat.round ≡ old.seat.round
   pub ended_is : new.seat.ended ≡ false
-  pub lane : new.outbox.sender.lane ≡ old.outbox.sender.lane
 
 -- A worker made one more move.
 pub record MadeOne {V : Type 0} (inputs : ℕ → List Packet) (old new : Course V) : Type 0 where

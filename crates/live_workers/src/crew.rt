@@ -1,4 +1,4 @@
-//! The workers of a race together: whether all have begun, and how many are still at work.
+//! The workers of a race together: whether all have begun.
 use crate::working::Worker;
 use box_program::Program;
 use replay_guide::Guide;
@@ -12,8 +12,6 @@ const MOST_LOOKS: u32 = 1_000_000;
 /// before all have begun, and where not all can run at once, none makes any.
 #[derive(Drop)]
 pub(crate) struct Crew {
-    /// How many workers are still at work.
-    pub(crate) at_work: AtomicU64,
     /// How many have to begin before one may go on.
     together: u64,
     begun: AtomicU64,
@@ -37,7 +35,6 @@ impl Crew {
         let count = workers.len() as u64;
         let together = if follows(guide, workers) { count } else { 0 };
         Crew {
-            at_work: AtomicU64::new(count),
             together,
             begun: AtomicU64::new(0),
             late: AtomicBool::new(false),

@@ -6,7 +6,7 @@ ghost use Rattle.live_workers.specs.Racing.{AreLeftBy, AreWorkers};
 
 use crate::working::{Worker, Working};
 use box_program::Program;
-use frame_intake::{Outbox, RoundOrders};
+use frame_intake::RoundOrders;
 use plain_text::NoMemory;
 use rand_pcg::Pcg32;
 use round_join::Moves;
@@ -19,7 +19,6 @@ pub(crate) struct Left<P: Program> {
     pub(crate) seats: Vec<VarSeat<P>>,
     pub(crate) moves: Vec<Moves>,
     pub(crate) generators: Vec<Pcg32>,
-    pub(crate) outboxes: Vec<Outbox>,
 }
 
 /// The last of these rooms; a new one where there is none.
@@ -30,26 +29,21 @@ fn room_of(alloc: Global, rooms: &mut Vec<Moves>) -> Moves {
     }
 }
 
-/// Workers for these seats, generators and outboxes. Their rooms say nothing of what they do.
+/// Workers for these seats and generators. Their rooms say nothing of what they do.
 pub(crate) fn workers_of<P: Program>(
     alloc: Global,
     mut seats: Vec<VarSeat<P>>,
     mut generators: Vec<Pcg32>,
-    mut outboxes: Vec<Outbox>,
     mut rooms: Vec<Moves>,
     orders: &RoundOrders,
 ) -> Result<Vec<Worker<P>>, NoMemory>
     requires generators { length generators.items ≡ length seats.items }
-    requires outboxes { length outboxes.items ≡ length seats.items }
-    ensures { IfOk result (λ workers. AreWorkers seats.items generators.items outboxes.items
+    ensures { IfOk result (λ workers. AreWorkers seats.items generators.items
         (orders_of orders.now).moves workers.items) }
 {
     let mut workers = Vec::with_capacity(alloc, seats.len())?;
     while let Some(seat) = seats.pop() {
         let Some(generator) = generators.pop() else {
-            unreachable!()
-        };
-        let Some(outbox) = outboxes.pop() else {
             unreachable!()
         };
         // A thread has a number of 32 bits: no memory has more seats than that.
@@ -59,7 +53,6 @@ pub(crate) fn workers_of<P: Program>(
         workers.push(Worker {
             seat,
             generator,
-            outbox,
             room: room_of(alloc, &mut rooms),
             limit: orders.most_moves(thread),
         })?;
@@ -75,31 +68,26 @@ pub(crate) fn part_all<P: Program>(
 ) -> Result<Left<P>, NoMemory>
     ensures { IfOk result (λ left. (courses : List (Course P.Value))
         × (ended.items ≡ map Ok courses)
-        × AreLeftBy courses left.seats.items left.moves.items left.generators.items
-        left.outboxes.items) }
+        × AreLeftBy courses left.seats.items left.moves.items left.generators.items) }
 {
     let count = ended.len();
     let mut left = Left {
         seats: Vec::with_capacity(alloc, count)?,
         moves: Vec::with_capacity(alloc, count)?,
         generators: Vec::with_capacity(alloc, count)?,
-        outboxes: Vec::with_capacity(alloc, count)?,
     };
     while let Some(one) = ended.pop() {
         let Working {
             seat,
             moves,
             generator,
-            outbox,
         } = one?;
         left.seats.push(seat)?;
         left.moves.push(moves)?;
         left.generators.push(generator)?;
-        left.outboxes.push(outbox)?;
     }
     left.seats.reverse();
     left.moves.reverse();
     left.generators.reverse();
-    left.outboxes.reverse();
     Ok(left)
 }

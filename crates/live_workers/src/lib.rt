@@ -8,6 +8,7 @@ mod gathering;
 mod moving;
 mod racing;
 mod rounds;
+mod sent;
 mod working;
 
 pub use draws::Draws;

@@ -16,6 +16,7 @@ ghost use Rattle.live_workers.specs.Rounds.{Rounds, RoundsRest, StopsRound};
 use crate::draws::Draws;
 use crate::moving::Sender;
 use crate::racing::{Race, run_race};
+use crate::sent::frames_sent;
 use box_program::Program;
 use frame_intake::{FrameName, RoundOrders};
 use master_core::Master;
@@ -37,7 +38,7 @@ pub struct RoundDone<P: Program> {
     pub system: System<P>,
     /// The steps that the threads made, one after another, as events with what each came to.
     pub steps: Vec<Noted>,
-    /// The frames that may arrive now, in the order in which the intake took them.
+    /// The frames that may arrive now, in the order of the steps that sent them.
     pub arriving: Vec<FrameName>,
     /// The generators of the next round.
     pub draws: Draws,
@@ -164,7 +165,6 @@ fn go_round<
         marks,
         mut moves,
         generators,
-        frames,
     } = run_race(
         rt, program, guide, inputs, clock, gate, master, orders, draws, most, sender,
     )?;
@@ -173,6 +173,7 @@ fn go_round<
         Err(stop) => return Err(stop),
     };
     rest.has_parts();
+    let frames = frames_sent(alloc, &steps)?;
     let arriving = orders.arriving(alloc, &frames)?;
     Ok(Over {
         master,
@@ -186,8 +187,8 @@ fn go_round<
 /// that is missing. Afterwards the system stands where it would stand had the moves been events `step`, one after
 /// another.
 ///
-/// Each thread is run by a worker, on a thread of the machine, or by the caller where none can be started. An intake
-/// takes the workers' frames while they move; which of them may arrive is told, and they have not arrived yet.
+/// Each thread is run by a worker, on a thread of the machine, or by the caller where none can be started. Which of the
+/// frames that they sent may arrive is told, in the order of the steps, and they have not arrived yet.
 pub fn round<
     P: Program + Send + Sync,
     C: Clock + Sync,

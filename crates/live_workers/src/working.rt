@@ -2,13 +2,10 @@
 ghost use Rattle.std.specs.Prelude.{◌≡◌, ◌<◌, ◌≤◌, ◌+◌, ◌^◌, ◌++◌, ◌∷◌, [], ℕ, false, length, IfOk};
 ghost use Rattle.std.specs.Prelude.{OnOk};
 ghost use Rattle.std.specs.Prelude.{MatchBool, Some};
-ghost use Rattle.std.specs.Option.{option_to_list};
 ghost use Rattle.input_logger.specs.Inputs.{inputs_of};
 ghost use Rattle.master_core.specs.Mastered.{moves_made};
 ghost use Rattle.var_locks.specs.Rounds.{AreVarsOf};
 ghost use Rattle.var_locks.specs.Seats.{IsSeatOf};
-ghost use Rattle.frame_intake.specs.Frames.{all_posted};
-ghost use Rattle.live_workers.specs.Frames.{frames_shown};
 ghost use Rattle.live_workers.specs.Moving.{HasInput, answer_shown, made_by};
 ghost use Rattle.live_workers.specs.Working.{Given, GoesOn, HasCome, HasEnded, IsGiven, MadeNone};
 ghost use Rattle.live_workers.specs.Working.{MadeOne, MayGoOn, WhyEnded};
@@ -16,11 +13,9 @@ ghost use Rattle.live_workers.specs.Working.{MadeOne, MayGoOn, WhyEnded};
 use crate::moving::{Sender, Surroundings, make_next};
 use box_program::Program;
 use entry_order::What;
-use frame_intake::{Outbox, Sent};
 use kept_moves::KeptMove;
-use log_queues::Lane;
 use master_core::Stepped;
-use plain_text::{Kind, NoMemory};
+use plain_text::NoMemory;
 use rand_pcg::Pcg32;
 use round_join::{Made, Moves};
 use std::alloc::Global;
@@ -34,7 +29,6 @@ use world_io::Clock;
 pub(crate) struct Worker<P: Program> {
     pub(crate) seat: VarSeat<P>,
     pub(crate) generator: Pcg32,
-    pub(crate) outbox: Outbox,
     /// Where it keeps its moves. What is in there does not count.
     pub(crate) room: Moves,
     /// How many moves it makes at most, where there is such an order.
@@ -49,7 +43,6 @@ impl<P: Program> Model for Worker<P> {
     ghost view = { λ w. record {
       seat = w.seat;
       generator = w.generator;
-      outbox = w.outbox;
       limit = w.limit;
     } };
 }
@@ -60,7 +53,6 @@ pub(crate) struct Working<P: Program> {
     pub(crate) seat: VarSeat<P>,
     pub(crate) moves: Moves,
     pub(crate) generator: Pcg32,
-    pub(crate) outbox: Outbox,
 }
 
 impl<P: Program> Model for Working<P> {
@@ -72,7 +64,6 @@ impl<P: Program> Model for Working<P> {
       seat = w.seat;
       moves = w.moves;
       generator = w.generator;
-      outbox = w.outbox;
     } };
 }
 
@@ -89,49 +80,19 @@ fn told_by(stepped: &Stepped) -> Option<u64>
     }
 }
 
-/// The frame that a move sends, by what its call showed.
-fn frame_of(stepped: &Stepped) -> Option<Sent>
-    ensures { option_to_list result ≡ frames_shown stepped.now }
-{
-    match stepped {
-        Stepped::Did(entry) => Some(Sent {
-            kind: Kind::Log,
-            number: entry.number,
-        }),
-        Stepped::Emitted(output) => Some(Sent {
-            kind: Kind::Out,
-            number: output.number,
-        }),
-        Stepped::Took(_)
-        | Stepped::Ended(_)
-        | Stepped::Idle
-        | Stepped::NotTurn { .. }
-        | Stepped::NoMemory => None,
-    }
-}
-
 impl<P: Program> Working<P> {
-    /// Keeps a move that its thread made, and posts its frame.
-    fn keep<R: Wait>(
+    /// Keeps a move that its thread made.
+    fn keep(
         &mut self,
-        rt: &R,
         alloc: Global,
         sender: Sender,
-        lane: &Lane<Sent>,
         thread: u32,
         stepped: Stepped,
     ) -> Result<(), NoMemory>
-        requires of { self.old.outbox.sender.lane ≡ lane.now }
         ensures seat { self.new.seat ≡ self.old.seat }
         ensures generator { self.new.generator ≡ self.old.generator }
-        ensures lane { self.new.outbox.sender.lane ≡ self.old.outbox.sender.lane }
         ensures moves { OnOk result (self.new.moves ≡ made_by thread stepped ∷ self.old.moves) }
-        ensures sent { OnOk result (all_posted self.new.outbox
-            ≡ all_posted self.old.outbox ++ frames_shown stepped) }
     {
-        if let Some(frame) = frame_of(&stepped) {
-            self.outbox.post(rt, lane, frame)?;
-        }
         let answer = told_by(&stepped);
         let stepped = KeptMove::of(alloc, sender.epoch, sender.threads, stepped)?;
         self.moves.push(Made {
@@ -146,13 +107,11 @@ impl<P: Program> Working<P> {
 fn go_on<P: Program, J: Round, C: Clock, G: Gate, R: Wait>(
     rt: &R,
     around: &Surroundings<'_, P, J, C, G>,
-    lane: &Lane<Sent>,
     working: &mut Working<P>,
 ) -> Result<bool, NoMemory>
     requires of { AreVarsOf P.meaning P.row.coded P.Value.row.coded
         around.now.program.now around.now.vars.now }
     requires guide { around.now.guide.now ≡ J.guide }
-    requires lane { working.old.outbox.sender.lane ≡ lane.now }
     requires seat { IsSeatOf around.now.vars.now working.old.seat }
     requires going { working.old.seat.ended ≡ false }
     requires input { HasInput (inputs_of around.now.inputs.now working.old.seat.thread)
@@ -175,7 +134,7 @@ fn go_on<P: Program, J: Round, C: Clock, G: Gate, R: Wait>(
         Stepped::Idle | Stepped::NotTurn { .. } => Ok(false),
         Stepped::NoMemory => Err(NoMemory),
         Stepped::Took(_) | Stepped::Did(_) | Stepped::Emitted(_) | Stepped::Ended(_) => {
-            working.keep(rt, around.alloc, around.sender, lane, thread, stepped)?;
+            working.keep(around.alloc, around.sender, thread, stepped)?;
             Ok(true)
         }
     }
@@ -186,7 +145,6 @@ fn go_on<P: Program, J: Round, C: Clock, G: Gate, R: Wait>(
 fn run<P: Program, J: Round, C: Clock, G: Gate, R: Wait>(
     rt: &R,
     around: &Surroundings<'_, P, J, C, G>,
-    lane: &Lane<Sent>,
     most: u64,
     limit: Option<u64>,
     working: &mut Working<P>,
@@ -194,7 +152,6 @@ fn run<P: Program, J: Round, C: Clock, G: Gate, R: Wait>(
     requires of { AreVarsOf P.meaning P.row.coded P.Value.row.coded
         around.now.program.now around.now.vars.now }
     requires guide { around.now.guide.now ≡ J.guide }
-    requires lane { working.old.outbox.sender.lane ≡ lane.now }
     requires seat { IsSeatOf around.now.vars.now working.old.seat }
     requires none { working.old.moves ≡ [] }
     requires may { MayGoOn (inputs_of around.now.inputs.now) most working.old }
@@ -213,7 +170,7 @@ fn run<P: Program, J: Round, C: Clock, G: Gate, R: Wait>(
         return Err(NoMemory);
     }
     for made in 0..most {
-        if limit == Some(made) || !go_on(rt, around, lane, working)? {
+        if limit == Some(made) || !go_on(rt, around, working)? {
             return Ok(());
         }
     }
@@ -224,22 +181,19 @@ fn run<P: Program, J: Round, C: Clock, G: Gate, R: Wait>(
 pub(crate) fn work<P: Program, J: Round, C: Clock, G: Gate, R: Wait>(
     rt: &R,
     around: &Surroundings<'_, P, J, C, G>,
-    lane: &Lane<Sent>,
     most: u64,
     worker: Worker<P>,
 ) -> Result<Working<P>, NoMemory>
     requires of { AreVarsOf P.meaning P.row.coded P.Value.row.coded
         around.now.program.now around.now.vars.now }
     requires guide { around.now.guide.now ≡ J.guide }
-    requires given { IsGiven around.now.vars.now lane.now (inputs_of around.now.inputs.now)
-        most worker }
+    requires given { IsGiven around.now.vars.now (inputs_of around.now.inputs.now) most worker }
     ensures ended { IfOk result (λ end. HasEnded (P.meaning around.now.program.now) J.guide
         (inputs_of around.now.inputs.now) (C.may around.now.clock.now) most worker end) }
 {
     let Worker {
         seat,
         generator,
-        outbox,
         room,
         limit,
     } = worker;
@@ -247,9 +201,8 @@ pub(crate) fn work<P: Program, J: Round, C: Clock, G: Gate, R: Wait>(
         seat,
         moves: room.cleared(),
         generator,
-        outbox,
     };
-    let ran = run(rt, around, lane, most, limit, &mut working);
+    let ran = run(rt, around, most, limit, &mut working);
     around.vars.end(around.program, &mut working.seat);
     ran?;
     Ok(working)

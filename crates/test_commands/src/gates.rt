@@ -1,5 +1,4 @@
-//! A gate at which two threads of a round wait for each other, and for a frame to be taken.
-use plain_text::Kind;
+//! A gate at which two threads of a round wait for each other.
 use std::sync::atomic::{AtomicU64, Ordering};
 use std::thread::yield_now;
 use var_locks::Gate;
@@ -7,19 +6,14 @@ use var_locks::Gate;
 /// How often a thread looks at most whether what it waits for has come.
 const TURNS: u32 = 100_000_000;
 
-/// Thread 0 about to touch variable 1, and thread 1 about to touch variable 2, wait for each other. Then thread 0,
-/// about to touch variable 0, waits until its first entry is taken.
-///
-/// So both threads move at the same time, each holds a variable of its own while the other does, and frames are taken
-/// while their thread still moves.
+/// Thread 0 about to touch variable 1, and thread 1 about to touch variable 2, wait for each other. So both threads move
+/// at the same time, and each holds a variable of its own while the other does.
 #[derive(Drop)]
 pub struct WaitingGate {
     /// 1 once thread 0 is at variable 1.
     first: AtomicU64,
     /// 1 once thread 1 is at variable 2.
     second: AtomicU64,
-    /// 1 once the first entry of thread 0 is taken.
-    taken: AtomicU64,
     /// How many waits have ended before their turns ran out.
     ended: AtomicU64,
 }
@@ -30,7 +24,6 @@ impl WaitingGate {
         WaitingGate {
             first: AtomicU64::new(0),
             second: AtomicU64::new(0),
-            taken: AtomicU64::new(0),
             ended: AtomicU64::new(0),
         }
     }
@@ -63,14 +56,7 @@ impl Gate for WaitingGate {
                 self.second.store(1, Ordering::SeqCst);
                 self.wait_for(&self.first);
             }
-            (0, 0) => self.wait_for(&self.taken),
             _ => {}
-        }
-    }
-
-    fn took(&self, kind: Kind, thread: u32, number: u64) {
-        if kind == Kind::Log && thread == 0 && number == 1 {
-            self.taken.store(1, Ordering::SeqCst);
         }
     }
 }

@@ -152,7 +152,7 @@ fn threads_move_beside_each_other(rt: HostRuntime) -> Result<(), Fail> {
         last: b"done fed 2 epoch 1 released 2\n",
     };
     assert!(rt; is_accepted(&rt, &gate, &race, b"found 2\n")?);
-    assert!(rt; gate.ended() == 3);
+    assert!(rt; gate.ended() == 2);
     Ok(())
 }
 

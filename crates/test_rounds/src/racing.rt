@@ -7,7 +7,6 @@ use crate::record::{Record, are_idle, arrive, perform};
 use box_program::Program;
 use frame_intake::FrameName;
 use live_workers::{Draws, RoundDone, round};
-use plain_text::Kind;
 use recovery_core::System;
 use recovery_world::Event;
 use round_join::Noted;
@@ -26,12 +25,6 @@ impl Gate for YieldingGate {
         if thread % 2 == 1 {
             yield_now();
         }
-    }
-
-    fn took(&self, kind: Kind, thread: u32, number: u64) {
-        let _ = kind;
-        let _ = thread;
-        let _ = number;
     }
 }
 

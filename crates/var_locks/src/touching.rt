@@ -21,7 +21,7 @@ use access_log::{StampedEntry, Turn};
 use box_program::Program;
 use master_core::{ThreadPart, Trace, VarPart, moves};
 use plain_machine::Local;
-use plain_text::{Kind, NoMemory};
+use plain_text::NoMemory;
 use replay_guide::Guide;
 use std::alloc::Global;
 use std::sync::Wait;
@@ -31,9 +31,6 @@ use thread_clock::Stamp;
 pub trait Gate {
     /// The thread has the variable in hand, and is about to touch it or to read it.
     fn pass(&self, thread: u32, var: u32);
-
-    /// The intake took this frame of a thread.
-    fn took(&self, kind: Kind, thread: u32, number: u64);
 }
 
 /// A gate that holds nobody.
@@ -43,12 +40,6 @@ impl Gate for OpenGate {
     fn pass(&self, thread: u32, var: u32) {
         let _ = thread;
         let _ = var;
-    }
-
-    fn took(&self, kind: Kind, thread: u32, number: u64) {
-        let _ = kind;
-        let _ = thread;
-        let _ = number;
     }
 }
 

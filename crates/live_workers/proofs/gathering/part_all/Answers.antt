@@ -1,6 +1,6 @@
 use Rattle.std.proofs.Common.{[], ◌∷◌, Ok, map, ap}
 use Rattle.live_workers.specs.Working.{Course}
-use Rattle.live_workers.specs.Racing.{seat_of, moves_of, generator_of, outbox_of}
+use Rattle.live_workers.specs.Racing.{seat_of, moves_of, generator_of}
 use Rattle.live_workers.proofs.GatheringLemmas.{append_none, last_taken_as, put_behind}
 use Rattle.live_workers.proofs.gathering.part_all.Goals as goal
 
@@ -11,7 +11,6 @@ loop-one-init g c = (
   c.in_ok-with_capacity.ensures.items,
   c.in_ok-with_capacity-2.ensures.items,
   c.in_ok-with_capacity-3.ensures.items,
-  c.in_ok-with_capacity-4.ensures.items,
 )
 
 pub loop-one-preserved : goal.loop-one-preserved
@@ -29,6 +28,4 @@ loop-one-preserved g c =
           (ap moves_of view) c.loop-one.invariant.3 c.in_ok-push-2.ensures.items,
       put_behind generator_of w done c.loop-one.left.generators.items c.push-in-Some-2.new.self.items
           c.seat.inside.generator (ap generator_of view) c.loop-one.invariant.4 c.in_ok-push-3.ensures.items,
-      put_behind outbox_of w done c.loop-one.left.outboxes.items c.push-in-Some-3.new.self.items
-          c.seat.inside.outbox (ap outbox_of view) c.loop-one.invariant.5 c.in_ok-push-4.ensures.items,
     )

@@ -8,12 +8,10 @@ use Rattle.live_workers.proofs.gathering.workers_of.Goals as goal
 pub loop-seat-init : goal.loop-seat-init
 loop-seat-init g c = (
   c.requires.generators,
-  c.requires.outboxes,
   (
     [],
     append_none c.args.seats.items,
     append_none c.args.generators.items,
-    append_none c.args.outboxes.items,
     c.in_ok-workers.ensures.items,
     λ t d within. let no : ⊥ = omega (arith, within) in absurd no,
   ),
@@ -24,40 +22,30 @@ unreachable-requires g c =
     none_missing _ _ _ _ _ c.loop-seat.invariant.0 c.loop-seat.generators.ok.0 c.in_default-pop.ensures.cases.0
     c.loop-seat.seats.ok.0 c.in-Some.ensures.cases
 
-pub unreachable-requires-in_default-pop-2 : goal.unreachable-requires-in_default-pop-2
-unreachable-requires-in_default-pop-2 g c =
-    none_missing _ _ _ _ _ c.loop-seat.invariant.1 c.loop-seat.outboxes.ok.0 c.in_default-pop-2.ensures.cases.0
-    c.loop-seat.seats.ok.0 c.in-Some.ensures.cases
-
 pub loop-seat-preserved : goal.loop-seat-preserved
 loop-seat-preserved g c =
     let was = c.loop-seat.invariant in
-    let done = was.2.0 in
+    let done = was.1.0 in
     let w : Given g.row.P-Value.Denot = record {
       seat = c.in-Some.seat;
       generator = c.in-Some-pop.generator;
-      outbox = c.in-Some-pop-2.outbox;
       limit = c.most_moves.result;
     } in
     let limits = (orders_of c.args.orders.now).moves in (
       same_left c.loop-seat.generators.items c.pop-in-Some.new.self.items w.generator c.loop-seat.seats.items
           c.pop.new.self.items w.seat was.0 c.in-Some-pop.ensures.items c.in-Some.ensures.items,
-      same_left c.loop-seat.outboxes.items c.pop-in-Some-2.new.self.items w.outbox c.loop-seat.seats.items
-          c.pop.new.self.items w.seat was.1 c.in-Some-pop-2.ensures.items c.in-Some.ensures.items,
       (
         w ∷ done,
         last_taken c.args.seats.items c.loop-seat.seats.items c.pop.new.self.items (map (λ w. w.seat) done) w.seat
-            was.2.1 c.in-Some.ensures.items,
+            was.1.1 c.in-Some.ensures.items,
         last_taken c.args.generators.items c.loop-seat.generators.items c.pop-in-Some.new.self.items
-            (map (λ w. w.generator) done) w.generator was.2.2 c.in-Some-pop.ensures.items,
-        last_taken c.args.outboxes.items c.loop-seat.outboxes.items c.pop-in-Some-2.new.self.items
-            (map (λ w. w.outbox) done) w.outbox was.2.3 c.in-Some-pop-2.ensures.items,
-        put_last w done c.loop-seat.workers.items c.push.new.self.items was.2.4 c.in_ok-push.ensures.items,
+            (map (λ w. w.generator) done) w.generator was.1.2 c.in-Some-pop.ensures.items,
+        put_last w done c.loop-seat.workers.items c.push.new.self.items was.1.3 c.in_ok-push.ensures.items,
         limits_before limits (length c.loop-seat.seats.items) (length c.pop.new.self.items) w done
             (one_longer c.loop-seat.seats.items c.pop.new.self.items w.seat c.in-Some.ensures.items)
             (limit_at limits w.limit c.in-Ok.thread c.len-in-Some.result c.pop.new.self.len
             (length c.pop.new.self.items) c.in-Ok.ensures.1 c.len-in-Some.ensures c.pop.new.self.ok.0
-            c.most_moves.ensures) was.2.5,
+            c.most_moves.ensures) was.1.4,
       ),
     )
 
@@ -65,8 +53,8 @@ pub returns : goal.returns
 returns g c =
     let was = c.loop-seat.invariant in
     let limits = (orders_of c.args.orders.now).moves in
-    all_reversed c.args.seats.items c.args.generators.items c.args.outboxes.items limits was.2.0
-    c.loop-seat.workers.items c.reverse.new.self.items was.2.4 c.reverse.ensures.items
-    (all_made c.args.seats.items c.args.generators.items c.args.outboxes.items limits c.loop-seat.seats.items
-    c.loop-seat.generators.items c.loop-seat.outboxes.items was.2.0 c.loop-seat.seats.len c.loop-seat.seats.ok.0
-    c.in_default.ensures.cases.0 was.0 was.1 was.2.1 was.2.2 was.2.3 was.2.5)
+    all_reversed c.args.seats.items c.args.generators.items limits was.1.0 c.loop-seat.workers.items
+    c.reverse.new.self.items was.1.3 c.reverse.ensures.items
+    (all_made c.args.seats.items c.args.generators.items limits c.loop-seat.seats.items
+    c.loop-seat.generators.items was.1.0 c.loop-seat.seats.len c.loop-seat.seats.ok.0
+    c.in_default.ensures.cases.0 was.0 was.1.1 was.1.2 was.1.4)

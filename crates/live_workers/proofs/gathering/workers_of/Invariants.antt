@@ -7,11 +7,10 @@ use Rattle.live_workers.proofs.gathering.workers_of.Given as goal
 -- the last workers were made
 abbrev pub invariant-loop-seat : goal.invariant-loop-seat
 invariant-loop-seat g l =
-    (length l.generators.items ≡ length l.seats.items) × (length l.outboxes.items ≡ length l.seats.items)
+    (length l.generators.items ≡ length l.seats.items)
     × ((done : List (Given g.row.P-Value.Denot))
     × (l.fn.seats.items ≡ l.seats.items ++ map (λ w. w.seat) done)
     × (l.fn.generators.items ≡ l.generators.items ++ map (λ w. w.generator) done)
-    × (l.fn.outboxes.items ≡ l.outboxes.items ++ map (λ w. w.outbox) done)
     × (l.workers.items ≡ reverse done)
     × AreLimitsFrom (orders_of l.fn.orders).moves (length l.seats.items) done)
 

@@ -17,12 +17,10 @@ returns-in_ok-keep-in-Took g c =
       seat = c.working.inside.seat;
       moves = c.working.inside.moves;
       generator = c.working.inside.generator;
-      outbox = c.working.inside.outbox;
     }) c.keep.new.self c.working.view_is
     (subst (λ (z : Course g.row.P-Value.Denot). z.seat.ended ≡ false) (sym c.working.view_is) c.requires.going)
     c.make_next-stepped.result c.thread-thread.result c.make_next-stepped.new.seat c.make_next-stepped.new.generator
     more c.thread-thread.ensures c.keep.ensures.seat c.keep.ensures.generator c.in_ok-keep-in-Took.ensures.moves
-    c.in_ok-keep-in-Took.ensures.sent c.keep.ensures.lane
     (subst (λ (z : Course g.row.P-Value.Denot). HasInput (inputs z.seat.thread) z.seat.part) (sym c.working.view_is)
     c.requires.input) in
     record { goes = k.goes; come = k.come; made = k.made }

@@ -16,9 +16,7 @@ returns g c =
       seat = c.worker.inside.seat;
       moves = c.cleared.result;
       generator = c.worker.inside.generator;
-      outbox = c.worker.inside.outbox;
-    }) (ap (λ (w : Given V). w.seat) is) c.cleared.ensures (ap (λ (w : Given V). w.generator) is)
-    (ap (λ (w : Given V). w.outbox) is) c.requires.given.none c.requires.given.empty in
+    }) (ap (λ (w : Given V). w.seat) is) c.cleared.ensures (ap (λ (w : Given V). w.generator) is) c.requires.given.none in
     let now = c.in_ok-ran.ensures.come given start in
     let view = c.working.view_is in
     record {
@@ -26,7 +24,6 @@ returns g c =
         seat = c.working.inside.seat;
         moves = c.working.inside.moves;
         generator = c.working.inside.generator;
-        outbox = c.working.inside.outbox;
       }) c.end.new.seat (sym (ap (λ (w : Given V). w.limit) is)) c.end.ensures.ended
           (subst (λ (z : Course V). HasCome m g.J.Round.guide inputs may given z) (sym view) now)
           (subst (λ (z : Course V). (n : ℕ) → c.worker.inside.limit ≡ Some n → length z.moves ≤ n) (sym view)
