@@ -1,9 +1,9 @@
 -- Looking up a frame in several runs.
 use Rattle.std.proofs.Common.{◌≡◌, ℕ, zero, suc, ◌+◌, ◌≤◌, ◌<◌, ◌≢◌, Bool, true, false, cond, List, [], ◌∷◌, ◌++◌}
-use Rattle.std.proofs.Common.{Option, Some, None, Bor, IsSome, IfNone, option_copied, length, length-set}
+use Rattle.std.proofs.Common.{Option, Some, None, Bor, IfNone, option_copied, length, length-set}
 use Rattle.std.proofs.Common.{slice_index_or, slice_set, ⊎_elim, refl, sym, ap, ◌∙◌, subst, arith, add-one}
 use Rattle.std.specs.BTreeMap.{is_at}
-use Rattle.std.specs.Option.{option_map}
+use Rattle.std.specs.Option.{option_map, is_some}
 use Rattle.link_store.specs.declared.address.Address.{Address}
 use Rattle.link_store.specs.contracts.address.AddressOrd.TheImpl as address_order
 use Rattle.std.proofs.lemmas.List.{get_or-set_same, get_or-set_other, get_or_read}
@@ -87,7 +87,7 @@ found_in (r ∷ runs) (suc i) a f d low before some =
     ∙ found_in runs i a f d (omega arith) (λ j e under. before (suc j) e (omega arith)) some
 
 -- read in the run that has it
-pub found_if : (runs : List Run) (i : ℕ) (a : Address) (run : Run) (r : Option (Bor Form)) → IsSome r → i < length runs
+pub found_if : (runs : List Run) (i : ℕ) (a : Address) (run : Run) (r : Option (Bor Form)) → is_some r ≡ true → i < length runs
     → ((j : ℕ) (e : Run) → j < i → frame_at (frames_of (slice_index_or runs j e)) a ≡ None)
     → run ≡ slice_index_or runs i run
     → option_map (bytes_of a.epoch) (option_copied r) ≡ frame_at (frames_of run) a
