@@ -53,7 +53,8 @@ fn turn_links<P: Program>(
     requires epoch { sent.old.epoch < 2 ^ 32 - 1 }
     requires in_master { threads ≤ length master.now.threads }
     requires in_links { threads ≤ sent.old.threads }
-    ensures { OnOk result (TurnsLinks master.now threads sent.old sent.new) }
+    ensures ok { OnOk result (TurnsLinks master.now threads sent.old sent.new) }
+    ensures threads { sent.new.threads ≡ sent.old.threads }
 {
     for thread in 0..threads {
         let counts = master.counts(thread);

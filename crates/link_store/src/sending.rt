@@ -290,7 +290,8 @@ impl SentFrames {
     /// links are of no use any more.
     pub fn begin_epoch(&mut self) -> Result<(), NoMemory>
         requires { self.old.epoch < 2 ^ 32 - 1 }
-        ensures begins { OnOk result (BeginsEpoch self.old self.new) }
+        ensures ok { OnOk result (BeginsEpoch self.old self.new) }
+        ensures threads { self.new.threads ≡ self.old.threads }
     {
         self.links.turn_epoch(self.epoch)?;
         self.epoch += 1;

@@ -18,6 +18,6 @@ returns-clause-on g c =
     c.threads-threads.ensures.value c.held.ensures c.in_ok-restored.ensures.master c.in_ok-counts.ensures
     c.fence-kept.ensures.epoch c.fence-kept.ensures.waiting c.fence-kept.ensures.once c.fence-kept.ensures.closed
     c.fence-kept.ensures.covered c.fence-kept.ensures.kept c.fence-kept.ensures.dropped c.in_ok-core-inside.ensures
-    c.in_ok-turn_links.ensures) c.in_ok-push.ensures.items
+    c.in_ok-turn_links.ensures.ok) c.in_ok-push.ensures.items
     (c.truncate.ensures ∙ ap (λ n. take n c.core.inside.schedule) c.in_ok-restored.ensures.moves)
     c.in_ok-restored.ensures.master
