@@ -2,7 +2,6 @@ pub mod CrashLemmas
 pub mod RecoveryLinks
 pub mod RecoveryCounts
 pub mod EarlierStamps
-pub mod UnreleasedLemmas
 pub mod RecoverySent
 pub mod RecoveryHeld
 pub mod RecoveryWorlds

@@ -1,5 +1,5 @@
--- What was sent, as it is after a recovery: the lengths of what the stored snapshot made, and its outputs sent again.
-use Rattle.std.proofs.Common.{◌≡◌, ℕ, zero, suc, ◌+◌, ◌<◌, ◌≤◌, List, [], ◌∷◌, length, take, refl, sym, ap, ◌∙◌, subst}
+-- What was sent, as it is after a recovery: the lengths of what the stored snapshot made, and its outputs on the links.
+use Rattle.std.proofs.Common.{◌≡◌, ◌≢◌, ℕ, zero, suc, ◌+◌, ◌<◌, ◌≤◌, List, [], ◌∷◌, length, take, refl, sym, ap, ◌∙◌, subst}
 use Rattle.std.proofs.Common.{inl, inr, ◌⊎◌, arith, Some, None}
 use Rattle.std.specs.Prelude.{slice_get, slice_index}
 use Rattle.std.proofs.lemmas.Bool.{cases_lt}
@@ -13,8 +13,7 @@ use Rattle.access_log.specs.declared.entry.Output.{Output}
 use Rattle.access_log.specs.Held.{Lane, lane}
 use Rattle.dup_filter.specs.Numbers.{Numbers, WasMarked}
 use Rattle.link_store.specs.declared.address.Address.{Address}
-use Rattle.link_store.specs.Links.{frame_at}
-use Rattle.wire_frames.specs.Writing.{CanPutOutput}
+use Rattle.link_store.specs.Links.{frame_at, IsOutputOf}
 use Rattle.plain_machine.specs.declared.emission.Emission.{Emission}
 use Rattle.plain_machine.specs.Program.{Meaning}
 use Rattle.plain_machine.specs.History.{Step, log_of, sent_of, outputs, IsHistory}
@@ -23,21 +22,17 @@ use Rattle.plain_machine.proofs.Histories.{history_log, earlier_history, earlier
 use Rattle.plain_machine.proofs.LoggedEffects.{entry_thread}
 use Rattle.master_core.specs.declared.parts.ThreadPart.{ThreadPart}
 use Rattle.master_core.proofs.Moments.{none_past_threads}
-use Rattle.master_core.specs.Mastered.{Mastered}
-use Rattle.output_logger.specs.Logger.{IsAmong}
 use Rattle.snapshot_store.specs.Stored.{Snapshot}
 use Rattle.recovery_world.specs.World.{Setting, Sent, World, inputs_fed}
 use Rattle.recovery_laws.specs.Sound.{Sound}
 use Rattle.recovery_laws.proofs.SoundParts.{sent_after}
 use Rattle.recovery_laws.proofs.Settlings.{number_high}
 use Rattle.recovery_laws.proofs.Finishes.{sends_thread}
-use Rattle.recovery_laws.proofs.OneOutcome.{output_one}
 use Rattle.link_store.specs.Sending.{Sending, lengths_of, length_at, entry_size, output_size, entry_address}
 use Rattle.link_store.specs.Sending.{output_address, HasOutputFrame}
 use Rattle.system_parts.specs.SystemStanding.{IsSentEntry, IsSentOutput, HasSent, IsSnapshot}
 use Rattle.crash_recovery.proofs.EarlierStamps.{stamp_back, output_back, few_entries}
-use Rattle.crash_recovery.proofs.UnreleasedLemmas.{IsKeptOutput, AreSentAgain}
-use Rattle.crash_recovery.specs.Recovering.{TurnsLinks, SendsRest}
+use Rattle.crash_recovery.specs.Recovering.{HasMade, TurnsLinks}
 use Rattle.system_parts.proofs.OutputNumbers.{output_there}
 
 -- Lengths that stay
@@ -69,9 +64,8 @@ no_outputs m inputs threads steps t h high = go (cases_lt 0 (outputs t (sent_of 
 
 -- What was sent
 module _ {V : Type 0} (s : Setting V) (w : World V) (sound : Sound s w) (held now_held : List Lane)
-    (released now_released : List Numbers) (old mid new : Sending) (snap : Snapshot V) (outbox : List Output)
-    (kept : IsSnapshot s w.stored snap) (turns : TurnsLinks snap.master s.threads old mid)
-    (again : AreSentAgain w old released outbox) (rest : SendsRest now_released outbox mid new)
+    (released now_released : List Numbers) (old new : Sending) (snap : Snapshot V) (kept : IsSnapshot s w.stored snap)
+    (turns : TurnsLinks snap.master s.threads old new)
     (marks : (t n : ℕ) → WasMarked released t n → WasMarked now_released t n)
     (covered : (t : ℕ) → (lane now_held t).covered ≡ entries t (log_of w.stored))
     (h : HasSent w.epoch w.past held released old) where
@@ -82,7 +76,7 @@ module _ {V : Type 0} (s : Setting V) (w : World V) (sound : Sound s w) (held no
   first_legal = earlier_history s.meaning (inputs_fed s w.fed) s.threads w.stored w.past sound.firm.stored legal
 
   epoch_is : new.epoch ≡ w.epoch + 1
-  epoch_is = rest.epoch ∙ (turns.epoch ∙ ap (λ (k : ℕ). k + 1) h.epoch)
+  epoch_is = turns.epoch ∙ ap (λ (k : ℕ). k + 1) h.epoch
 
   blank : ThreadPart
   blank = record { counts = record { taken = 0; entries = 0; outputs = 0 }; hand = None; stamp = [] }
@@ -90,24 +84,14 @@ module _ {V : Type 0} (s : Setting V) (w : World V) (sound : Sound s w) (held no
   cut_entries : (t : ℕ) → t < s.threads
       → lengths_of new.entries t ≡ take (entries t (log_of w.stored)) (lengths_of old.entries t)
   cut_entries t low =
-      ap (λ (l : List (List ℕ)). lengths_of l t) rest.entries
-      ∙ (turns.entries t low blank
-      ∙ ap (λ (k : ℕ). take k (lengths_of old.entries t)) (kept.stands.thread t blank low).logged)
+      turns.entries t low blank
+      ∙ ap (λ (k : ℕ). take k (lengths_of old.entries t)) (kept.stands.thread t blank low).logged
 
   cut_outputs : (t : ℕ) → t < s.threads
       → lengths_of new.outputs t ≡ take (outputs t (sent_of w.stored)) (lengths_of old.outputs t)
   cut_outputs t low =
-      ap (λ (l : List (List ℕ)). lengths_of l t) rest.outputs
-      ∙ (turns.outputs t low blank
-      ∙ ap (λ (k : ℕ). take k (lengths_of old.outputs t)) (kept.stands.thread t blank low).outputs)
-
-  -- no frame is left of the epochs before, and none is there of the new one but those sent again
-  gone : (d : Address) → w.epoch < d.epoch → frame_at new.frames d ≡ frame_at mid.frames d
-      → frame_at new.frames d ≡ None
-  gone d later same =
-      same
-      ∙ (turns.forgets.others d (λ is. let here = h.epoch in absurd (omega (arith, is, here, later)))
-      ∙ h.none_later d later)
+      turns.outputs t low blank
+      ∙ ap (λ (k : ℕ). take k (lengths_of old.outputs t)) (kept.stands.thread t blank low).outputs
 
   entry_again : (e : Entry) → IsIn e (log_of w.stored) → IsSentEntry (log_of w.stored) now_held new e
   entry_again e i = record {
@@ -120,7 +104,7 @@ module _ {V : Type 0} (s : Setting V) (w : World V) (sound : Sound s w) (held no
         (cut_entries e.thread (entry_thread s.meaning (inputs_fed s w.fed) s.threads w.stored e first_legal i))
         low was.size;
     there = inr (
-      go (rest.others (entry_address new e.thread e.number)),
+      go (turns.only (entry_address new e.thread e.number)),
       inl (let c = covered e.thread in omega (arith, c, low)),
     );
   }
@@ -132,15 +116,16 @@ module _ {V : Type 0} (s : Setting V) (w : World V) (sound : Sound s w) (held no
       low = (number_within (log_of w.stored) e
           (history_log s.meaning (inputs_fed s w.fed) s.threads w.stored first_legal) i).1
 
-      go : (frame_at new.frames (entry_address new e.thread e.number)
-          ≡ frame_at mid.frames (entry_address new e.thread e.number))
-          ⊎ ((new.epoch ≡ mid.epoch) × (Log ≡ Out) × (WasMarked now_released e.thread e.number → ⊥))
+      go : (frame_at new.frames (entry_address new e.thread e.number) ≡ None)
+          ⊎ (IsOutputOf new.epoch (entry_address new e.thread e.number)
+          × HasMade snap.master s.threads e.thread e.number
+          × (frame_at old.frames (output_address old e.thread e.number) ≢ None))
           → frame_at new.frames (entry_address new e.thread e.number) ≡ None
-      go (inl same) = gone (entry_address new e.thread e.number) (let k = epoch_is in omega (arith, k)) same
-      go (inr k) = absurd (let no = k.1 in cc)
+      go (inl none) = none
+      go (inr k) = absurd (let no = k.0.1 in cc)
 
   output_again : (o : Sent) → SendsAfter w.stored o.emission o.after → IsSentOutput (log_of w.stored) now_released new o
-  output_again o sends = go (again.has o sends)
+  output_again o sends = at was.there
     where
       was : IsSentOutput (log_of w.past) released old o
       was = h.output_sent o (sends_later w.stored w.past o.emission o.after sound.firm.stored sends)
@@ -156,61 +141,50 @@ module _ {V : Type 0} (s : Setting V) (w : World V) (sound : Sound s w) (held no
       sized size is = length_cut old.outputs new.outputs o.emission.thread o.emission.number
           (outputs o.emission.thread (sent_of w.stored)) size (cut_outputs o.emission.thread thread) low is
 
-      none : WasMarked now_released o.emission.thread o.emission.number
-          → (frame_at new.frames (output_address new o.emission.thread o.emission.number)
-          ≡ frame_at mid.frames (output_address new o.emission.thread o.emission.number))
-          ⊎ ((new.epoch ≡ mid.epoch) × (Out ≡ Out) × (WasMarked now_released o.emission.thread o.emission.number → ⊥))
-          → frame_at new.frames (output_address new o.emission.thread o.emission.number) ≡ None
-      none marked (inl same) =
-          gone (output_address new o.emission.thread o.emission.number) (let k = epoch_is in omega (arith, k)) same
-      none marked (inr k) = absurd (k.2 marked)
-
-      let_go : WasMarked now_released o.emission.thread o.emission.number
+      -- as it is now, where it stays on the links or was released
+      sent_as : HasOutputFrame new was.stamped
+          ⊎ ((frame_at new.frames (output_address new o.emission.thread o.emission.number) ≡ None)
+          × WasMarked now_released o.emission.thread o.emission.number)
           → IsSentOutput (log_of w.stored) now_released new o
-      let_go marked = record {
+      sent_as there = record {
         stamped = was.stamped;
         plain = was.plain;
         stamp = output_back s.meaning (inputs_fed s w.fed) s.threads w.past w.stored legal sound.firm.stored
             o.emission.thread o.after (λ u. slice_index was.stamped.stamp u)
             (sent_after w.stored o.emission o.after sends) was.stamp;
-        size = sized (output_size was.stamped) was.size;
-        there = inr (none marked (rest.others (output_address new o.emission.thread o.emission.number)), marked);
+        size = length_cut old.outputs new.outputs o.emission.thread o.emission.number
+            (outputs o.emission.thread (sent_of w.stored)) (output_size was.stamped)
+            (cut_outputs o.emission.thread thread) low was.size;
+        there = there;
       }
 
-      sent_again : (v : Output) (p : Sent) → p ≡ o → IsKeptOutput (log_of w.stored) old v p → HasOutputFrame new v
-          → IsSentOutput (log_of w.stored) now_released new o
-      sent_again v p same k frame =
-          let there : IsKeptOutput (log_of w.stored) old v o =
-          subst (λ (q : Sent). IsKeptOutput (log_of w.stored) old v q) same k in
-          record {
-            stamped = v;
-            plain = there.plain;
-            stamp = there.stamp;
-            size = sized (output_size v) there.size;
-            there = inl frame;
-          }
+      made : HasMade snap.master s.threads was.stamped.thread was.stamped.number
+      made few d =
+          let own : was.stamped.thread ≡ o.emission.thread = ap (λ (q : Emission). q.thread) was.plain in
+          let number : was.stamped.number ≡ o.emission.number = ap (λ (q : Emission). q.number) was.plain in
+          let count = (kept.stands.thread was.stamped.thread d few).outputs in
+          let same : outputs was.stamped.thread (sent_of w.stored) ≡ outputs o.emission.thread (sent_of w.stored) =
+          ap (λ (t : ℕ). outputs t (sent_of w.stored)) own in
+          omega (arith, number, count, same, low)
 
-      pick : (x : Output) → IsKeptOutput (log_of w.stored) old x o
-          → WasMarked now_released x.thread x.number
-          ⊎ ((v : Output) × IsAmong v outbox × (v.thread ≡ x.thread) × (v.number ≡ x.number)
-          × HasOutputFrame new v) → IsSentOutput (log_of w.stored) now_released new o
-      pick x k (inl marked) = let_go (subst (λ (q : Emission). WasMarked now_released q.thread q.number) k.plain marked)
-      pick x k (inr (v, i, t, n, frame)) =
-          let own = again.each v i in
-          let t_is : own.0.emission.thread ≡ o.emission.thread =
-          ap (λ (q : Emission). q.thread) (sym own.2.plain) ∙ (t ∙ ap (λ (q : Emission). q.thread) k.plain) in
-          let n_is : own.0.emission.number ≡ o.emission.number =
-          ap (λ (q : Emission). q.number) (sym own.2.plain) ∙ (n ∙ ap (λ (q : Emission). q.number) k.plain) in
-          let same = output_one s w sound o.emission.thread o.emission.number own.0 o
-          (sends_later w.stored w.past own.0.emission own.0.after sound.firm.stored own.1, (t_is, n_is))
-          (sends_later w.stored w.past o.emission o.after sound.firm.stored sends, (refl, refl)) in
-          sent_again v own.0 same own.2 frame
+      none : frame_at old.frames (output_address old o.emission.thread o.emission.number) ≡ None
+          → (frame_at new.frames (output_address new o.emission.thread o.emission.number) ≡ None)
+          ⊎ (IsOutputOf new.epoch (output_address new o.emission.thread o.emission.number)
+          × HasMade snap.master s.threads o.emission.thread o.emission.number
+          × (frame_at old.frames (output_address old o.emission.thread o.emission.number) ≢ None))
+          → frame_at new.frames (output_address new o.emission.thread o.emission.number) ≡ None
+      none gone (inl is) = is
+      none gone (inr k) = absurd (k.2 gone)
 
-      go : WasMarked released o.emission.thread o.emission.number
-          ⊎ ((x : Output) × IsAmong x outbox × IsKeptOutput (log_of w.stored) old x o)
+      at : HasOutputFrame old was.stamped
+          ⊎ ((frame_at old.frames (output_address old o.emission.thread o.emission.number) ≡ None)
+          × WasMarked released o.emission.thread o.emission.number)
           → IsSentOutput (log_of w.stored) now_released new o
-      go (inl was_marked) = let_go (marks o.emission.thread o.emission.number was_marked)
-      go (inr (x, i, k)) = pick x k (rest.there x i)
+      at (inl frame) = sent_as (inl (turns.stay was.stamped frame made))
+      at (inr (gone, marked)) = sent_as (inr (
+        none gone (turns.only (output_address new o.emission.thread o.emission.number)),
+        marks o.emission.thread o.emission.number marked,
+      ))
 
   pub sent_again : HasSent (w.epoch + 1) w.stored now_held now_released new
   sent_again = record {
@@ -219,7 +193,7 @@ module _ {V : Type 0} (s : Setting V) (w : World V) (sound : Sound s w) (held no
     output_sent = output_again;
     entry_counts = λ t. counted_entries t (cases_lt t s.threads);
     output_counts = λ t. counted_outputs t (cases_lt t s.threads);
-    none_later = λ a later. last a later (rest.others a);
+    none_later = λ a later. last a later (turns.only a);
   }
     where
       counted_entries : (t : ℕ) → (t < s.threads) ⊎ (s.threads ≤ t)
@@ -230,11 +204,10 @@ module _ {V : Type 0} (s : Setting V) (w : World V) (sound : Sound s w) (held no
           ap (λ (l : List ℕ). length l) (cut_entries t low)
           ∙ length-take-le (entries t (log_of w.stored)) (lengths_of old.entries t) (omega (arith, few, all))
       counted_entries t (inr high) =
-          ap (λ (l : List (List ℕ)). length (lengths_of l t)) rest.entries
-          ∙ (ap (λ (l : List ℕ). length l) (turns.others t high).0
+          ap (λ (l : List ℕ). length l) (turns.others t high).0
           ∙ (h.entry_counts t
           ∙ (none_past_threads s.meaning (inputs_fed s w.fed) s.threads w.past t legal high
-          ∙ sym (none_past_threads s.meaning (inputs_fed s w.fed) s.threads w.stored t first_legal high))))
+          ∙ sym (none_past_threads s.meaning (inputs_fed s w.fed) s.threads w.stored t first_legal high)))
 
       counted_outputs : (t : ℕ) → (t < s.threads) ⊎ (s.threads ≤ t)
           → length (lengths_of new.outputs t) ≡ outputs t (sent_of w.stored)
@@ -244,36 +217,15 @@ module _ {V : Type 0} (s : Setting V) (w : World V) (sound : Sound s w) (held no
           ap (λ (l : List ℕ). length l) (cut_outputs t low)
           ∙ length-take-le (outputs t (sent_of w.stored)) (lengths_of old.outputs t) (omega (arith, few, all))
       counted_outputs t (inr high) =
-          ap (λ (l : List (List ℕ)). length (lengths_of l t)) rest.outputs
-          ∙ (ap (λ (l : List ℕ). length l) (turns.others t high).1
+          ap (λ (l : List ℕ). length l) (turns.others t high).1
           ∙ (h.output_counts t
           ∙ (no_outputs s.meaning (inputs_fed s w.fed) s.threads w.past t legal high
-          ∙ sym (no_outputs s.meaning (inputs_fed s w.fed) s.threads w.stored t first_legal high))))
+          ∙ sym (no_outputs s.meaning (inputs_fed s w.fed) s.threads w.stored t first_legal high)))
 
       last : (a : Address) → w.epoch + 1 < a.epoch
-          → (frame_at new.frames a ≡ frame_at mid.frames a)
-          ⊎ ((a.epoch ≡ mid.epoch) × (a.kind ≡ Out) × (WasMarked now_released a.thread a.number → ⊥))
-          → frame_at new.frames a ≡ None
-      last a later (inl same) = gone a (omega (arith, later)) same
-      last a later (inr k) =
-          let e = k.0 in let is = epoch_is in let r = rest.epoch in absurd (omega (arith, later, e, is, r))
-
--- what is sent again can be sent in each epoch
-pub can_again : {V : Type 0} (w : World V) (old mid : Sending) (released : List Numbers) (master : Mastered V)
-    (outbox : List Output) (count : ℕ) → AreSentAgain w old released outbox → TurnsLinks master count old mid
-    → (x : Output) → IsAmong x outbox → CanPutOutput mid.epoch mid.threads x
-can_again w old mid released master outbox count again turns x i = record {
-  sent = record {
-    epoch_from = let e = turns.epoch in omega (arith, e);
-    threads_from = there.sent.threads_from;
-    threads_to = there.sent.threads_to;
-    of_these = there.sent.of_these;
-    number_from = there.sent.number_from;
-    none = there.sent.none;
-  };
-  input = there.input;
-  captured = there.captured;
-}
-  where
-    there : CanPutOutput 1 mid.threads x
-    there = subst (λ (n : ℕ). CanPutOutput 1 n x) (sym turns.threads) (again.each x i).2.can
+          → (frame_at new.frames a ≡ None)
+          ⊎ (IsOutputOf new.epoch a
+          × HasMade snap.master s.threads a.thread a.number
+          × (frame_at old.frames (output_address old a.thread a.number) ≢ None)) → frame_at new.frames a ≡ None
+      last a later (inl none) = none
+      last a later (inr k) = let e = k.0.0 in let is = epoch_is in absurd (omega (arith, later, e, is))

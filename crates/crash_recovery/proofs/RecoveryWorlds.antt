@@ -15,7 +15,6 @@ use Rattle.access_log.specs.declared.held.Kept.{Kept}
 use Rattle.access_log.specs.Held.{Lane, lane, entry_at, IsWithin as IsWithinHeld}
 use Rattle.access_log.specs.Members.{IsMember, IsDropped, IsNumberOf}
 use Rattle.dup_filter.specs.Numbers.{Numbers, WasMarked}
-use Rattle.wire_frames.specs.Writing.{CanPutOutput}
 use Rattle.plain_machine.specs.declared.plain_move.PlainMove.{PlainMove}
 use Rattle.plain_machine.specs.Program.{Meaning}
 use Rattle.plain_machine.specs.History.{Step, log_of, sent_of, outputs}
@@ -40,10 +39,8 @@ use Rattle.recovery_world.specs.declared.event.Outcome.TheVariants as outcome
 use Rattle.system_parts.specs.Performing.{MovesOn, ComesTo}
 use Rattle.system_parts.proofs.EventChains.{moves_as}
 use Rattle.plain_machine.proofs.OneLine.{earlier_length}
-use Rattle.crash_recovery.specs.Recovering.{RecoversTo, TurnsLinks, SendsRest, WakesUp}
-use Rattle.crash_recovery.specs.Unreleased.{AreUnreleased}
-use Rattle.crash_recovery.proofs.UnreleasedLemmas.{AreSentAgain, sends_again}
-use Rattle.crash_recovery.proofs.RecoverySent.{sent_again, can_again}
+use Rattle.crash_recovery.specs.Recovering.{RecoversTo, TurnsLinks, WakesUp}
+use Rattle.crash_recovery.proofs.RecoverySent.{sent_again}
 use Rattle.crash_recovery.proofs.RecoveryHeld.{can_follow, part_held, followed_holds, guide_begins, keeps, drops}
 
 -- The moves of an earlier moment
@@ -148,15 +145,9 @@ ends_epoch threads now w ended counts h are = record {
         get_before ended counts (epoch - 1) (omega (arith, low, from, all, long)) in
         subst (λ (l : List Counts). AreCounts threads x l) (sym before) (h.each epoch x from low there)
 
--- these are the outputs of the stored snapshot that were not released
-abbrev pub IsOutboxOf : {P V : Type 0} → Meaning V → Parts P V → List Output → Type 0
-IsOutboxOf {P} {V} m y outbox =
-    (s : Setting V) (w : World V) → StandsFor m s w y
-    → AreUnreleased y.sent y.logger.released s.threads (λ (t : ℕ). outputs t (sent_of w.stored)) outbox
-
 -- What the parts of a recovery do.
 pub record StartsOver {P V : Type 0} (y : Parts P V) (kept : Kept) (counts : List Counts) (now : Logger)
-    (guide : List Lane) (outbox : List Output) (mid sent : Sending) : Type 0 where
+    (guide : List Lane) (sent : Sending) : Type 0 where
   pub counts_are : counts ≡ map (λ (part : ThreadPart). part.counts) (take y.inputs.threads y.master.threads)
   pub epoch : now.epoch ≡ y.logger.epoch + 1
   pub waiting : now.waiting ≡ []
@@ -168,8 +159,7 @@ pub record StartsOver {P V : Type 0} (y : Parts P V) (kept : Kept) (counts : Lis
   pub keeps : IsNumberOf (IsMember now.held) kept.kept
   pub drops : IsNumberOf (IsDropped y.logger.held now.held) kept.dropped
   pub lanes : (t : ℕ) → lane guide t ≡ lane now.held t
-  pub turns : TurnsLinks y.store.stored.master y.inputs.threads y.sent mid
-  pub rest : SendsRest now.released outbox mid sent
+  pub turns : TurnsLinks y.store.stored.master y.inputs.threads y.sent sent
 
 -- the parts after it
 abbrev pub started : {P V : Type 0} → Parts P V → List Counts → Logger → List Lane → Sending → Parts P V
@@ -184,9 +174,8 @@ started y counts now guide sent = record y {
 }
 
 module _ {P V : Type 0} (m : Meaning V) (s : Setting V) (w : World V) (y : Parts P V) (st : StandsFor m s w y)
-    (down : y.up ≡ false) (kept : Kept) (counts : List Counts) (now : Logger) (guide : List Lane) (outbox : List Output)
-    (mid sent : Sending) (d : StartsOver y kept counts now guide outbox mid sent)
-    (again : AreSentAgain w y.sent y.logger.released outbox) (part : List Entry) (part_of : IsPartOf w.held part)
+    (down : y.up ≡ false) (kept : Kept) (counts : List Counts) (now : Logger) (guide : List Lane) (sent : Sending)
+    (d : StartsOver y kept counts now guide sent) (part : List Entry) (part_of : IsPartOf w.held part)
     (closed : IsClosedPart (entries_of_line w) (log_of w.stored) w.held part) where
   is_down : w.up ≡ false
   is_down = sym st.master.up ∙ down
@@ -224,8 +213,8 @@ module _ {P V : Type 0} (m : Meaning V) (s : Setting V) (w : World V) (y : Parts
   covers : (t : ℕ) → (lane now.held t).covered ≡ entries t (log_of w.stored)
   covers t = d.covered t ∙ st.logger.holds.covered t
 
-  turns : TurnsLinks y.store.stored.master s.threads y.sent mid
-  turns = subst (λ (n : ℕ). TurnsLinks y.store.stored.master n y.sent mid) threads_is d.turns
+  turns : TurnsLinks y.store.stored.master s.threads y.sent sent
+  turns = subst (λ (n : ℕ). TurnsLinks y.store.stored.master n y.sent sent) threads_is d.turns
 
   none_waits : AreOutputs (log_of w.stored) now.waiting []
   none_waits = subst (λ (l : List Output). AreOutputs (log_of w.stored) l []) (sym d.waiting) tt
@@ -289,8 +278,8 @@ module _ {P V : Type 0} (m : Meaning V) (s : Setting V) (w : World V) (y : Parts
           (d.counts_are ∙ ap (λ (n : ℕ). map (λ (q : ThreadPart). q.counts) (take n y.master.threads)) threads_is));
       guide = guide_begins s w st.sound.firm y.logger.held now.held st.logger.holds d.closed d.covered st.logger.held
           part closed guide d.lanes;
-      sent = sent_again s w st.sound y.logger.held now.held y.logger.released now.released y.sent mid sent
-          y.store.stored outbox st.snapshots.first turns again d.rest marks covers st.sent;
+      sent = sent_again s w st.sound y.logger.held now.held y.logger.released now.released y.sent sent y.store.stored
+          st.snapshots.first turns marks covers st.sent;
       logger = logs;
       released = st.released;
     },
@@ -298,18 +287,16 @@ module _ {P V : Type 0} (m : Meaning V) (s : Setting V) (w : World V) (y : Parts
 
 -- the same, for the parts as they were
 pub start_moves : {P V : Type 0} (meaning : P → Meaning V) (y old : Parts P V) (kept : Kept) (counts : List Counts)
-    (now : Logger) (guide : List Lane) (outbox : List Output) (mid sent : Sending) → y ≡ old → old.up ≡ false
-    → IsOutboxOf (meaning old.program) old outbox → StartsOver y kept counts now guide outbox mid sent
+    (now : Logger) (guide : List Lane) (sent : Sending) → y ≡ old → old.up ≡ false
+    → StartsOver y kept counts now guide sent
     → MovesOn (meaning old.program) (RecoversTo kept) old (started y counts now guide sent)
-start_moves {P} {V} meaning y old kept counts now guide outbox mid sent same down are d =
+start_moves {P} {V} meaning y old kept counts now guide sent same down d =
     subst (λ (z : Parts P V). MovesOn (meaning z.program) (RecoversTo kept) z (started y counts now guide sent)) same (
       refl,
       λ s w st.
           let r = (recovers_there s w st.sound.firm).1 in
-          starts_over (meaning y.program) s w y st (ap (λ (z : Parts P V). z.up) same ∙ down) kept counts now guide
-          outbox mid sent d (sends_again (meaning y.program) s w y st outbox
-          (subst (λ (z : Parts P V). IsOutboxOf (meaning z.program) z outbox) (sym same) are s w st)) r.part r.part_of
-          r.closed,
+          starts_over (meaning y.program) s w y st (ap (λ (z : Parts P V). z.up) same ∙ down) kept counts now guide sent
+          d r.part r.part_of r.closed,
     )
 
 -- what is held then can be followed
@@ -323,22 +310,10 @@ follows_then {P} {V} meaning y old now same some closed covered =
     let here = subst (λ (z : Parts P V). StandsForSome (meaning z.program) z) (sym same) some in
     can_follow here.0 here.1 here.2.sound.firm y.logger.held now.held here.2.logger.holds closed covered
 
--- and what was gathered can be sent
-pub sends_then : {P V : Type 0} (meaning : P → Meaning V) (y old : Parts P V) (master : Mastered V)
-    (outbox : List Output) (count : ℕ) (mid : Sending) → y ≡ old → StandsForSome (meaning old.program) old
-    → IsOutboxOf (meaning old.program) old outbox → TurnsLinks master count y.sent mid
-    → (x : Output) → IsAmong x outbox → CanPutOutput mid.epoch mid.threads x
-sends_then {P} {V} meaning y old master outbox count mid same some are turns x i =
-    let here = subst (λ (z : Parts P V). StandsForSome (meaning z.program) z) (sym same) some in
-    let gathered = subst (λ (z : Parts P V). IsOutboxOf (meaning z.program) z outbox) (sym same) are in
-    can_again here.1 y.sent mid y.logger.released master outbox count
-    (sends_again (meaning y.program) here.0 here.1 y here.2 outbox (gathered here.0 here.1 here.2)) turns x i
-
 -- what the calls of a recovery ensure, together
 pub starts_then : {P V : Type 0} (y : Parts P V) (kept : Kept) (counts : List Counts) (now : Logger)
-    (guide held : List Lane) (released : List Numbers) (mid sent : Sending) (threads : ℕ) (master : Mastered V)
-    (outbox : List Output) → threads ≡ y.inputs.threads → held ≡ now.held → released ≡ now.released
-    → master ≡ y.store.stored.master
+    (guide held : List Lane) (sent : Sending) (threads : ℕ) (master : Mastered V) → threads ≡ y.inputs.threads
+    → held ≡ now.held → master ≡ y.store.stored.master
     → counts ≡ map (λ (part : ThreadPart). part.counts) (take threads y.master.threads) → now.epoch ≡ y.logger.epoch + 1
     → now.waiting ≡ [] → ReleasesOnce y.logger.released now.released []
     → ((t n : ℕ) (e : StampedEntry)
@@ -346,10 +321,9 @@ pub starts_then : {P V : Type 0} (y : Parts P V) (kept : Kept) (counts : List Co
     ↔ ((entry_at (lane y.logger.held t) n ≡ Some e) × IsWithinHeld y.logger.held e.stamp))
     → ((t : ℕ) → (lane now.held t).covered ≡ (lane y.logger.held t).covered) → IsNumberOf (IsMember now.held) kept.kept
     → IsNumberOf (IsDropped y.logger.held now.held) kept.dropped → ((t : ℕ) → lane guide t ≡ lane held t)
-    → TurnsLinks master threads y.sent mid → SendsRest released outbox mid sent
-    → StartsOver y kept counts now guide outbox mid sent
-starts_then {P} {V} y kept counts now guide held released mid sent threads master outbox threads_is held_is released_is
-    master_is counts_is epoch waiting once closed covered keeps drops lanes turns rest = record {
+    → TurnsLinks master threads y.sent sent → StartsOver y kept counts now guide sent
+starts_then {P} {V} y kept counts now guide held sent threads master threads_is held_is master_is counts_is epoch waiting
+    once closed covered keeps drops lanes turns = record {
       counts_are = counts_is ∙ ap (λ (n : ℕ). map (λ (q : ThreadPart). q.counts) (take n y.master.threads)) threads_is;
       epoch = epoch;
       waiting = waiting;
@@ -359,16 +333,14 @@ starts_then {P} {V} y kept counts now guide held released mid sent threads maste
       keeps = keeps;
       drops = drops;
       lanes = λ t. lanes t ∙ ap (λ (l : List Lane). lane l t) held_is;
-      turns = subst (λ (n : ℕ). TurnsLinks y.store.stored.master n y.sent mid) threads_is
-          (subst (λ (p : Mastered V). TurnsLinks p threads y.sent mid) master_is turns);
-      rest = subst (λ (n : List Numbers). SendsRest n outbox mid sent) released_is rest;
+      turns = subst (λ (n : ℕ). TurnsLinks y.store.stored.master n y.sent sent) threads_is
+          (subst (λ (p : Mastered V). TurnsLinks p threads y.sent sent) master_is turns);
     }
 
 -- the parts as the calls leave them
 pub start_moves_as : {P V : Type 0} (meaning : P → Meaning V) (y old : Parts P V) (kept : Kept) (counts : List Counts)
-    (now : Logger) (guide : List Lane) (outbox : List Output) (mid sent : Sending) (ended : List (List Counts))
-    (schedule : List PlainMove) (master : Mastered V) → y ≡ old → old.up ≡ false
-    → IsOutboxOf (meaning old.program) old outbox → StartsOver y kept counts now guide outbox mid sent
+    (now : Logger) (guide : List Lane) (sent : Sending) (ended : List (List Counts)) (schedule : List PlainMove)
+    (master : Mastered V) → y ≡ old → old.up ≡ false → StartsOver y kept counts now guide sent
     → ended ≡ y.ended ++ counts ∷ [] → schedule ≡ take y.store.stored.moves y.schedule → master ≡ y.store.stored.master
     → MovesOn (meaning old.program) (RecoversTo kept) old (record y {
       up = true;
@@ -379,7 +351,7 @@ pub start_moves_as : {P V : Type 0} (meaning : P → Meaning V) (y old : Parts P
       sent = sent;
       logger = now;
     })
-start_moves_as {P} {V} meaning y old kept counts now guide outbox mid sent ended schedule master same down are d
+start_moves_as {P} {V} meaning y old kept counts now guide sent ended schedule master same down d
     ended_is schedule_is master_is =
     subst (λ (e : List (List Counts)). MovesOn (meaning old.program) (RecoversTo kept) old
     (record y { up = true; master = master; schedule = schedule; guide = guide; ended = e; sent = sent; logger = now }))
@@ -399,7 +371,7 @@ start_moves_as {P} {V} meaning y old kept counts now guide outbox mid sent ended
       ended = y.ended ++ counts ∷ [];
       sent = sent;
       logger = now;
-    })) (sym master_is) (start_moves meaning y old kept counts now guide outbox mid sent same down are d)))
+    })) (sym master_is) (start_moves meaning y old kept counts now guide sent same down d)))
 
 -- A master that is up stays so, where it is told to recover and where a settling begins.
 module _ {P V : Type 0} (m : Meaning V) (old : Parts P V) (up : old.up ≡ true) where

@@ -1,19 +1,16 @@
 -- What a recovery makes of the world and of the links, and how many entries it keeps and drops.
-use Rattle.std.specs.Prelude.{◌≡◌, ℕ, ◌+◌, ◌≤◌, ◌<◌, ◌⊎◌, List, length, take, HoldsAt}
-use Rattle.plain_text.specs.declared.kind.Kind.TheVariants.{Out}
+use Rattle.std.specs.Prelude.{◌≡◌, ◌≢◌, ℕ, ◌+◌, ◌≤◌, ◌<◌, ◌⊎◌, None, length, take, HoldsAt}
 use Rattle.entry_order.specs.Log.{IsIn}
 use Rattle.entry_order.specs.Stamps.{IsCount}
 use Rattle.access_log.specs.declared.held.Kept.{Kept}
 use Rattle.access_log.specs.declared.entry.Output.{Output}
-use Rattle.dup_filter.specs.Numbers.{Numbers, WasMarked}
 use Rattle.link_store.specs.declared.address.Address.{Address}
-use Rattle.link_store.specs.Links.{frame_at, Forgets, IsOfEpoch}
+use Rattle.link_store.specs.Links.{frame_at, IsOutputOf}
 use Rattle.master_core.specs.Mastered.{Mastered}
-use Rattle.output_logger.specs.Logger.{IsAmong}
 use Rattle.plain_machine.specs.History.{log_of}
 use Rattle.recovery_world.specs.World.{Setting, World}
 use Rattle.recovery_world.specs.Events.{Recovers, Wakes}
-use Rattle.link_store.specs.Sending.{Sending, lengths_of, HasOutputFrame}
+use Rattle.link_store.specs.Sending.{Sending, lengths_of, output_address, HasOutputFrame}
 
 -- The new master follows this number of entries that are not stored, and this number of held ones were dropped.
 pub record RecoversTo {V : Type 0} (kept : Kept) (s : Setting V) (w next : World V) : Type 0 where
@@ -25,10 +22,18 @@ pub record RecoversTo {V : Type 0} (kept : Kept) (s : Setting V) (w next : World
 abbrev pub WakesUp : {V : Type 0} → Setting V → World V → World V → Type 0
 WakesUp s w next = Wakes w next
 
--- The next epoch begins, and the frames of the one before are forgotten. Of each of the first threads, only what this
--- master made counts as sent; of the others all that was sent.
+-- this master made so many outputs of the thread, where it is one of the first
+abbrev pub HasMade : {V : Type 0} → Mastered V → ℕ → ℕ → ℕ → Type 0
+HasMade master count t n = t < count → HoldsAt (λ part. n ≤ part.counts.outputs) master.threads t
+
+-- The next epoch begins. Of each of the first threads, only what this master made counts as sent; of the others all that
+-- was sent. The outputs on the links that count stay there, as frames of this epoch, and nothing else does.
 pub record TurnsLinks {V : Type 0} (master : Mastered V) (count : ℕ) (old new : Sending) : Type 0 where
-  pub forgets : Forgets (IsOfEpoch old.epoch) old.frames new.frames
+  pub stay : (o : Output) → HasOutputFrame old o → HasMade master count o.thread o.number → HasOutputFrame new o
+  pub only : (a : Address) → (frame_at new.frames a ≡ None)
+      ⊎ (IsOutputOf new.epoch a
+      × HasMade master count a.thread a.number
+      × (frame_at old.frames (output_address old a.thread a.number) ≢ None))
   pub entries : (t : ℕ) → t < count
       → HoldsAt (λ part. lengths_of new.entries t ≡ take part.counts.entries (lengths_of old.entries t))
       master.threads t
@@ -38,16 +43,4 @@ pub record TurnsLinks {V : Type 0} (master : Mastered V) (count : ℕ) (old new 
   pub others : (t : ℕ) → count ≤ t
       → (lengths_of new.entries t ≡ lengths_of old.entries t) × (lengths_of new.outputs t ≡ lengths_of old.outputs t)
   pub epoch : new.epoch ≡ old.epoch + 1
-  pub threads : new.threads ≡ old.threads
-
--- Each of these outputs has a frame of its thread and number, unless it was released. Other frames are as they were.
-pub record SendsRest (released : List Numbers) (outbox : List Output) (old new : Sending) : Type 0 where
-  pub there : (x : Output) → IsAmong x outbox
-      → WasMarked released x.thread x.number
-      ⊎ ((y : Output) × IsAmong y outbox × (y.thread ≡ x.thread) × (y.number ≡ x.number) × HasOutputFrame new y)
-  pub others : (a : Address) → (frame_at new.frames a ≡ frame_at old.frames a)
-      ⊎ ((a.epoch ≡ old.epoch) × (a.kind ≡ Out) × (WasMarked released a.thread a.number → ⊥))
-  pub entries : new.entries ≡ old.entries
-  pub outputs : new.outputs ≡ old.outputs
-  pub epoch : new.epoch ≡ old.epoch
   pub threads : new.threads ≡ old.threads

@@ -1,20 +1,12 @@
-ghost use Rattle.std.specs.Prelude.{◌≡◌, ◌-◌, ◌^◌, ◌<◌, ◌≤◌, ℕ, false, true, IfOk, OnOk, length};
-ghost use Rattle.std.specs.Prelude.{map};
-ghost use Rattle.std.specs.Prelude.{take};
-ghost use Rattle.access_log.specs.declared.entry.Output as output_of;
-ghost use Rattle.output_logger.specs.Logger.{IsAmong};
-ghost use Rattle.wire_frames.specs.Writing.{CanPutOutput};
+ghost use Rattle.std.specs.Prelude.{◌≡◌, ◌-◌, ◌^◌, ◌<◌, ◌≤◌, false, true, IfOk, OnOk, length};
+ghost use Rattle.std.specs.Prelude.{map, take};
 ghost use Rattle.recovery_world.specs.declared.event.Event.TheVariants as event_is;
-ghost use Rattle.plain_machine.specs.History.{sent_of, outputs};
-ghost use Rattle.recovery_world.specs.World.{Setting, World};
-ghost use Rattle.system_parts.specs.SystemStanding.{StandsFor, StandsForSome};
+ghost use Rattle.system_parts.specs.SystemStanding.{StandsForSome};
 ghost use Rattle.system_parts.specs.Performing.{MovesOn, ComesTo};
-ghost use Rattle.crash_recovery.specs.Recovering.{RecoversTo, SendsRest, TurnsLinks, WakesUp};
-ghost use Rattle.crash_recovery.specs.Unreleased.{HasRest, AddsUnreleased, AreUnreleased};
+ghost use Rattle.crash_recovery.specs.Recovering.{RecoversTo, TurnsLinks, WakesUp};
 
-use access_log::{Kept, Outputs};
+use access_log::Kept;
 use box_program::Program;
-use dup_filter::Released;
 use link_store::SentFrames;
 use master_core::{Counts, Master};
 use plain_text::{NoMemory, Sequence};
@@ -52,79 +44,23 @@ fn counts_of<P: Program>(
     Ok(counts)
 }
 
-/// Appends the outputs of a thread, up to this number, that are not released.
-fn add_unreleased(
-    sent: &SentFrames,
-    released: &Released,
-    thread: u32,
-    count: u64,
-    outbox: &mut Outputs,
+/// The links serve a new epoch, with what this master sent alone: its outputs stay where they are.
+fn turn_links<P: Program>(
+    sent: &mut SentFrames,
+    master: &Master<P>,
+    threads: u32,
 ) -> Result<(), NoMemory>
-    requires there { HasRest sent.now released.now thread count }
-    ensures adds { OnOk result
-        (AddsUnreleased sent.now released.now thread count outbox.old outbox.new) }
-{
-    for earlier in released.floor(thread)..count {
-        let number = earlier + 1;
-        if !released.seen(thread, number) {
-            if let Some(output) = sent.output(thread, number)? {
-                outbox.push(output)?;
-            }
-        }
-    }
-    Ok(())
-}
-
-/// The outputs of the stored snapshot, of which this is the master, that are not released.
-fn unreleased<P: Program>(core: &Core<P>, master: &Master<P>) -> Result<Outputs, NoMemory>
-    requires stands { StandsForSome (P.meaning core.now.program) core.now }
-    requires stored { master.now ≡ core.now.store.stored.master }
-    ensures are { IfOk result (λ outbox. (s : Setting P.Value) (w : World P.Value)
-        → StandsFor (P.meaning core.now.program) s w core.now
-        → AreUnreleased core.now.sent core.now.logger.released s.threads
-        (λ (t : ℕ). outputs t (sent_of w.stored)) outbox) }
-{
-    let mut outbox = Outputs::new(core.alloc);
-    for thread in 0..core.inputs.threads() {
-        let count = master.counts(thread).outputs;
-        add_unreleased(
-            &core.sent,
-            core.logger.released(),
-            thread,
-            count,
-            &mut outbox,
-        )?;
-    }
-    Ok(outbox)
-}
-
-/// The links serve a new epoch, with what this master sent alone.
-fn turn_links<P: Program>(sent: &mut SentFrames, master: &Master<P>, threads: u32)
     requires epoch { sent.old.epoch < 2 ^ 32 - 1 }
     requires in_master { threads ≤ length master.now.threads }
     requires in_links { threads ≤ sent.old.threads }
-    ensures { TurnsLinks master.now threads sent.old sent.new }
+    ensures ok { OnOk result (TurnsLinks master.now threads sent.old sent.new) }
+    ensures threads { sent.new.threads ≡ sent.old.threads }
 {
-    sent.begin_epoch();
     for thread in 0..threads {
         let counts = master.counts(thread);
         sent.turn_back(thread, counts.entries, counts.outputs);
     }
-}
-
-/// Sends those of the outputs again that are not released.
-fn send_rest(sent: &mut SentFrames, released: &Released, outbox: &Outputs) -> Result<(), NoMemory>
-    requires { (x : output_of.Output) → IsAmong x outbox.now
-        → CanPutOutput sent.old.epoch sent.old.threads x }
-    ensures ok { OnOk result (SendsRest released.now outbox.now sent.old sent.new) }
-    ensures threads { sent.new.threads ≡ sent.old.threads }
-{
-    for output in outbox.as_slice() {
-        if !released.seen(output.thread, output.number) {
-            sent.send_again(output)?;
-        }
-    }
-    Ok(())
+    sent.begin_epoch()
 }
 
 /// A new master starts from the stored snapshot, and follows what is held of that all of whose predecessors are held or
@@ -142,13 +78,11 @@ pub fn start_over<P: Program>(core: &mut Core<P>) -> Result<Kept, NoMemory>
     }
     let threads = core.inputs.threads();
     let restored = core.store.restore(core.alloc, &core.program)?;
-    let outbox = unreleased(core, &restored.master)?;
     let counts = counts_of(core.alloc, &core.master, threads)?;
     core.ended.push(counts)?;
     let kept = core.logger.fence();
     core.guide = Guide::of(core.alloc, core.logger.held())?;
-    turn_links(&mut core.sent, &restored.master, threads);
-    send_rest(&mut core.sent, core.logger.released(), &outbox)?;
+    turn_links(&mut core.sent, &restored.master, threads)?;
     core.schedule.truncate(restored.moves as usize);
     core.master = restored.master;
     core.up = true;

@@ -1,23 +1,27 @@
 -- Frames as they are sent, and what comes back.
 use Rattle.std.specs.Prelude.{slice_index, ◌^◌}
-use Rattle.std.proofs.Common.{◌≡◌, ◌≢◌, ℕ, ◌<◌, List, [], ◌∷◌, ◌++◌, length, refl, sym, ap, ◌∙◌, subst, Option, Some}
-use Rattle.std.proofs.Common.{arith}
+use Rattle.std.proofs.Common.{◌≡◌, ◌≢◌, ℕ, ◌+◌, ◌<◌, ◌≤◌, List, [], ◌∷◌, ◌++◌, length, refl, sym, ap, ◌∙◌, subst}
+use Rattle.std.proofs.Common.{Option, Some, None, inl, inr, ◌⊎◌, arith}
+use Rattle.std.proofs.lemmas.Bool.{cases_lt}
 use Rattle.std.specs.Prelude.{slice_set, slice_index_or}
 use Rattle.std.proofs.lemmas.List.{get_or_default}
+use Rattle.plain_text.specs.declared.kind.Kind.{Kind}
 use Rattle.plain_text.specs.declared.kind.Kind.TheVariants.{Log, Out}
 use Rattle.wire_frames.specs.FromAccessLog.{StampedEntry}
 use Rattle.wire_frames.specs.FromAccessLog.{Output}
 use Rattle.link_store.specs.declared.address.Address.{Address}
-use Rattle.link_store.specs.Links.{address, frame_at, Sends}
+use Rattle.link_store.specs.Links.{address, frame_at, Sends, GoesOn, IsOutputOf, TurnsEpoch}
 use Rattle.wire_frames.specs.declared.frame.Frame.TheVariants as frame
 use Rattle.wire_frames.specs.Layout.{IsFrame, written}
 use Rattle.wire_frames.specs.Parts.{FitsWord}
 use Rattle.wire_frames.proofs.Ranges.{is_sent, is_done}
 use Rattle.wire_frames.proofs.Whole.{is_written}
 use Rattle.wire_frames.specs.Writing.{CanPutEntry, CanPutOutput}
-use Rattle.link_store.specs.Sending.{Sending, HasEntryFrame, HasOutputFrame, SendsEntry, SendsOutput, SendsAgain}
-use Rattle.link_store.specs.Sending.{CountsEntry, TakesOutput, entry_size, entry_address, output_address, lengths_of}
+use Rattle.link_store.specs.Sending.{Sending, HasEntryFrame, HasOutputFrame, SendsEntry, SendsOutput}
+use Rattle.link_store.specs.Sending.{BeginsEpoch, CountsEntry, TakesOutput, entry_size, entry_address, output_address, lengths_of}
 use Rattle.link_store.specs.Spelled.{IsEntryFrame, IsOutputFrame}
+use Rattle.link_store.proofs.KeptLemmas.{can_in}
+use Rattle.link_store.proofs.RunLemmas.{same_address}
 
 -- the frame that is found is that of the entry, or of the output
 
@@ -164,20 +168,86 @@ counts_entry old now e lengths as_now can epoch number word all fit longer =
       threads = refl;
     })
 
--- the same, of an output of which the length is known
-pub sends_again : (old now : Sending) (frames : List (Address × List ℕ)) (o : Output) (bytes : List ℕ) → old ≡ now
-    → CanPutOutput old.epoch old.threads o → IsFrame bytes (frame.Output old.epoch old.threads o)
-    → Sends old.frames frames (output_address old o.thread o.number) bytes
-    → SendsAgain now (record old { frames = frames }) o
-sends_again old now frames o bytes as_now can is sends =
-    subst (λ (q : Sending). SendsAgain q (record old { frames = frames }) o) as_now (record {
-      frame = record { can = can; bytes = bytes; is = is; there = sends.sent };
-      sends = sends;
-      outputs = refl;
-      entries = refl;
-      epoch = refl;
-      threads = refl;
-    })
+-- The next epoch
+
+-- what stands there for a frame
+goes_on : (epoch : ℕ) (s s' : Option (List ℕ)) (bytes : List ℕ) → GoesOn epoch s s' → s ≡ Some bytes
+    → (new : List ℕ)
+    × (s' ≡ Some new)
+    × ((threads : ℕ) (o : Output) → IsFrame bytes (frame.Output epoch threads o)
+    → IsFrame new (frame.Output (epoch + 1) threads o))
+goes_on epoch None s' bytes on some = cc
+goes_on epoch (Some old) None bytes on some = absurd on
+goes_on epoch (Some old) (Some new) bytes on some = (
+  new,
+  refl,
+  λ threads o is. on threads o
+      (subst (λ (l : List ℕ). IsFrame l (frame.Output epoch threads o)) (sym (some_same old bytes some)) is),
+)
+
+-- a frame that is there stands for one
+stood : (epoch : ℕ) (s s' : Option (List ℕ)) → GoesOn epoch s s' → (s' ≡ None) ⊎ (s ≢ None)
+stood epoch s None on = inl refl
+stood epoch None (Some new) on = absurd on
+stood epoch (Some old) (Some new) on = inr (λ e. cc)
+
+module _ (old now : Sending) (frames : List (Address × List ℕ)) (as_now : old ≡ now)
+    (turns : TurnsEpoch old.epoch old.frames frames) where
+  abbrev next : Sending
+  next = record old { epoch = old.epoch + 1; frames = frames }
+
+  stays : (o : Output) → HasOutputFrame old o → HasOutputFrame next o
+  stays o has =
+      let on = goes_on old.epoch _ (frame_at frames (output_address next o.thread o.number)) has.bytes
+      (turns.outputs o.thread o.number) has.there in
+      record {
+        can = can_in old.epoch (old.epoch + 1) old.threads o (omega arith) has.can;
+        bytes = on.0;
+        is = on.2 old.threads o has.is;
+        there = on.1;
+      }
+
+  only_outputs : (a : Address) → (frame_at frames a ≡ None)
+      ⊎ (IsOutputOf (old.epoch + 1) a × (frame_at old.frames (output_address old a.thread a.number) ≢ None))
+  only_outputs a = go (kind_or a.kind) (cases_lt a.epoch (old.epoch + 1)) (cases_lt (old.epoch + 1) a.epoch)
+    where
+      kind_or : (k : Kind) → (k ≡ Out) ⊎ (k ≡ Out → ⊥)
+      kind_or Log = inr (λ e. cc)
+      kind_or Out = inl refl
+
+      go : (a.kind ≡ Out) ⊎ (a.kind ≡ Out → ⊥) → (a.epoch < old.epoch + 1) ⊎ (old.epoch + 1 ≤ a.epoch)
+          → (old.epoch + 1 < a.epoch) ⊎ (a.epoch ≤ old.epoch + 1)
+          → (frame_at frames a ≡ None)
+          ⊎ (IsOutputOf (old.epoch + 1) a × (frame_at old.frames (output_address old a.thread a.number) ≢ None))
+      go (inr off) v w = inl (turns.others a (λ is. off is.1))
+      go (inl out) (inl low) w = inl (turns.others a (λ is. let e = is.0 in omega (arith, low, e)))
+      go (inl out) (inr from) (inl high) = inl (turns.others a (λ is. let e = is.0 in omega (arith, high, e)))
+      go (inl out) (inr from) (inr to) =
+          on (stood old.epoch (frame_at old.frames (output_address old a.thread a.number))
+          (frame_at frames (output_address next a.thread a.number)) (turns.outputs a.thread a.number))
+        where
+          epoch : a.epoch ≡ old.epoch + 1
+          epoch = omega (arith, from, to)
+
+          here : a ≡ output_address next a.thread a.number
+          here = same_address a (output_address next a.thread a.number) epoch out refl refl
+
+          on : (frame_at frames (output_address next a.thread a.number) ≡ None)
+              ⊎ (frame_at old.frames (output_address old a.thread a.number) ≢ None)
+              → (frame_at frames a ≡ None)
+              ⊎ (IsOutputOf (old.epoch + 1) a × (frame_at old.frames (output_address old a.thread a.number) ≢ None))
+          on (inl none) = inl (ap (λ (b : Address). frame_at frames b) here ∙ none)
+          on (inr some) = inr ((epoch, out), some)
+
+  pub begins_epoch : BeginsEpoch now next
+  begins_epoch = subst (λ (q : Sending). BeginsEpoch q next) as_now (record {
+    stay = stays;
+    only = only_outputs;
+    entries = refl;
+    outputs = refl;
+    epoch = refl;
+    threads = refl;
+  })
 
 -- a frame is off the links, or none is
 pub takes_output : (old now : Sending) (frames : List (Address × List ℕ)) (t n : ℕ) → old ≡ now

@@ -1,9 +1,13 @@
 -- The frames on the links, each at its address, and what a call does to them.
-use Rattle.std.specs.Prelude.{◌≡◌, ◌≢◌, ℕ, ◌≤◌, List, Option, Some, None}
+use Rattle.std.specs.Prelude.{◌≡◌, ◌≢◌, ℕ, ◌+◌, ◌≤◌, ◌<◌, List, Option, Some, None}
 use Rattle.std.specs.Map.{lookup}
 use Rattle.std.specs.BTreeMap.{is_at}
 use Rattle.link_store.specs.declared.address.Address.{Address}
 use Rattle.plain_text.specs.declared.kind.Kind.{Kind}
+use Rattle.plain_text.specs.declared.kind.Kind.TheVariants.{Out}
+use Rattle.wire_frames.specs.FromAccessLog.{Output}
+use Rattle.wire_frames.specs.declared.frame.Frame.TheVariants as frame_of
+use Rattle.wire_frames.specs.Layout.{IsFrame}
 use Rattle.link_store.specs.contracts.address.AddressOrd.TheImpl as address_order
 
 -- the address of these four
@@ -31,6 +35,28 @@ pub record IsUpTo (last a : Address) : Type 0 where
   pub thread : a.thread ≡ last.thread
   pub number : a.number ≤ last.number
 
--- the address is of this epoch
-abbrev pub IsOfEpoch : ℕ → Address → Type 0
-IsOfEpoch epoch a = a.epoch ≡ epoch
+-- so it is, and its number is above
+pub record IsPast (last a : Address) : Type 0 where
+  pub epoch : a.epoch ≡ last.epoch
+  pub kind : a.kind ≡ last.kind
+  pub thread : a.thread ≡ last.thread
+  pub number : last.number < a.number
+
+-- the address is that of an output of this epoch
+abbrev pub IsOutputOf : ℕ → Address → Type 0
+IsOutputOf epoch a = (a.epoch ≡ epoch) × (a.kind ≡ Out)
+
+-- Where there was a frame in this epoch, there is one in the next: that of the same output.
+abbrev pub GoesOn : ℕ → Option (List ℕ) → Option (List ℕ) → Type 0
+GoesOn epoch None None = Unit {0}
+GoesOn epoch None (Some new) = ⊥
+GoesOn epoch (Some old) None = ⊥
+GoesOn epoch (Some old) (Some new) =
+    (threads : ℕ) (o : Output) → IsFrame old (frame_of.Output epoch threads o)
+    → IsFrame new (frame_of.Output (epoch + 1) threads o)
+
+-- The outputs of this epoch stand as those of the next one, and nothing else is there.
+pub record TurnsEpoch (epoch : ℕ) (old new : List (Address × List ℕ)) : Type 0 where
+  pub outputs : (t n : ℕ)
+      → GoesOn epoch (frame_at old (address epoch Out t n)) (frame_at new (address (epoch + 1) Out t n))
+  pub others : (a : Address) → (IsOutputOf (epoch + 1) a → ⊥) → frame_at new a ≡ None

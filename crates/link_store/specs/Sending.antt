@@ -5,7 +5,7 @@ use Rattle.plain_text.specs.declared.kind.Kind.TheVariants.{Log, Out}
 use Rattle.wire_frames.specs.FromAccessLog.{StampedEntry}
 use Rattle.wire_frames.specs.FromAccessLog.{Output}
 use Rattle.link_store.specs.declared.address.Address.{Address}
-use Rattle.link_store.specs.Links.{address, frame_at, Sends, Forgets, IsUpTo, IsOfEpoch}
+use Rattle.link_store.specs.Links.{address, frame_at, Sends, Forgets, IsUpTo, IsPast, IsOutputOf}
 use Rattle.wire_frames.specs.declared.frame.Frame.TheVariants as frame_of
 use Rattle.wire_frames.specs.Layout.{nonzero, IsFrame}
 use Rattle.wire_frames.specs.Writing.{CanPutEntry, CanPutOutput}
@@ -86,15 +86,6 @@ pub record SendsOutput (old new : Sending) (o : Output) : Type 0 where
   pub epoch : new.epoch ≡ old.epoch
   pub threads : new.threads ≡ old.threads
 
--- An output of which the length is known was sent again.
-pub record SendsAgain (old new : Sending) (o : Output) : Type 0 where
-  pub frame : HasOutputFrame new o
-  pub sends : Sends old.frames new.frames (output_address old o.thread o.number) frame.bytes
-  pub entries : new.entries ≡ old.entries
-  pub outputs : new.outputs ≡ old.outputs
-  pub epoch : new.epoch ≡ old.epoch
-  pub threads : new.threads ≡ old.threads
-
 -- The frames of a thread's first entries are forgotten; their lengths are not.
 pub record ForgetsEntries (old new : Sending) (t up_to : ℕ) : Type 0 where
   pub forgets : Forgets (IsUpTo (entry_address old t up_to)) old.frames new.frames
@@ -130,17 +121,20 @@ pub record TakesOutput (old new : Sending) (t n : ℕ) : Type 0 where
   pub epoch : new.epoch ≡ old.epoch
   pub threads : new.threads ≡ old.threads
 
--- The next epoch begins, and the frames of the one before are forgotten.
+-- The next epoch begins. The outputs on the links stay there, as frames of this epoch, and nothing else does.
 pub record BeginsEpoch (old new : Sending) : Type 0 where
-  pub forgets : Forgets (IsOfEpoch old.epoch) old.frames new.frames
+  pub stay : (o : Output) → HasOutputFrame old o → HasOutputFrame new o
+  pub only : (a : Address) → (frame_at new.frames a ≡ None)
+      ⊎ (IsOutputOf new.epoch a × (frame_at old.frames (output_address old a.thread a.number) ≢ None))
   pub entries : new.entries ≡ old.entries
   pub outputs : new.outputs ≡ old.outputs
   pub epoch : new.epoch ≡ old.epoch + 1
   pub threads : new.threads ≡ old.threads
 
--- Of this thread only the first ones count as sent: this number of entries, and this number of outputs.
+-- Of this thread only the first ones count as sent: this number of entries, and this number of outputs. The frames of its
+-- outputs past them are forgotten.
 pub record TurnsBack (old new : Sending) (t logged emitted : ℕ) : Type 0 where
-  pub frames : new.frames ≡ old.frames
+  pub forgets : Forgets (IsPast (output_address old t emitted)) old.frames new.frames
   pub entries : new.entries ≡ slice_set old.entries t (take logged (lengths_of old.entries t))
   pub outputs : new.outputs ≡ slice_set old.outputs t (take emitted (lengths_of old.outputs t))
   pub epoch : new.epoch ≡ old.epoch

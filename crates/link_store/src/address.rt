@@ -1,5 +1,6 @@
 ghost use Rattle.std.specs.Prelude.{IsTrue, ◌↔◌};
 ghost use Rattle.link_store.specs.Beside.{IsBeside};
+ghost use Rattle.link_store.specs.Links.{IsOutputOf};
 
 use plain_text::Kind;
 
@@ -23,5 +24,12 @@ impl Address {
         ensures { IsTrue result ↔ IsBeside self.now other.now }
     {
         self.thread == other.thread && self.kind == other.kind && self.epoch == other.epoch
+    }
+
+    /// Whether it is that of an output of this epoch.
+    pub(crate) fn is_output_of(&self, epoch: u32) -> bool
+        ensures { IsTrue result ↔ IsOutputOf epoch self.now }
+    {
+        self.kind == Kind::Out && self.epoch == epoch
     }
 }

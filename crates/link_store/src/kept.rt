@@ -1,49 +1,43 @@
-ghost use Rattle.std.specs.Prelude.{◌≡◌, ◌<◌, ◌^◌, ℕ, Some, IfOk, IfSome, slice_index};
+ghost use Rattle.std.specs.Prelude.{◌≡◌, ◌<◌, ◌^◌, ℕ, Some, IfOk, IfSome, OnOk, slice_index};
 ghost use Rattle.wire_frames.specs.FromAccessLog.{Output as OutputValue};
 ghost use Rattle.wire_frames.specs.FromAccessLog.{StampedEntry as EntryValue};
 ghost use Rattle.wire_frames.specs.declared.frame.Frame.TheVariants as frame_is;
-ghost use Rattle.wire_frames.specs.Layout.{written, IsFrame};
+ghost use Rattle.wire_frames.specs.Layout.{IsFrame};
 ghost use Rattle.wire_frames.specs.Writing.{CanPutOutput};
+ghost use Rattle.link_store.specs.declared.kept.Form.TheVariants.{Told};
+ghost use Rattle.link_store.specs.Kept.{bytes_of, HasFrame, IsTold, Tells};
 
-use crate::reading::{entry_in, output_in};
+use crate::reading::{entry_in, output_in, sent_in};
 use plain_text::{Bytes, NoMemory};
 use std::alloc::Global;
 use std::marker::Model;
 use wire_frames::{Output, StampedEntry, copy_output};
 
-/// An output with what its frame says of its sender.
-#[derive(Debug, Drop)]
-struct ToldOutput {
-    epoch: u32,
-    threads: u32,
-    output: Output,
-}
-
 /// How a frame is kept.
 #[derive(Debug, Drop)]
-enum Form {
+pub enum Form {
     /// As its bytes.
     Spelled(Bytes),
-    /// As the output that it tells.
-    Told(ToldOutput),
+    /// As the output that it tells, of a sender with this number of threads.
+    Told { threads: u32, output: Output },
 }
 
-/// A frame on a link. Contracts see its bytes.
+/// A frame on a link. Contracts see how it is kept, and read its bytes by `bytes_of`.
 ///
 /// That of an output may be kept as the output itself: then its bytes are those that `put_output` would write of it,
-/// and stand nowhere.
+/// and stand nowhere. They say the epoch in which the frame stands, which is kept once for many frames.
 #[derive(Debug, Drop)]
 pub struct KeptFrame {
     form: Form,
 }
 
 impl Model for KeptFrame {
-    ghost use Rattle.std.specs.Prelude.{List, ℕ};
-    ghost use Rattle.link_store.specs.Kept.{bytes_of, IsWell};
+    ghost use Rattle.link_store.specs.declared.kept.Form.{Form};
+    ghost use Rattle.link_store.specs.Kept.{IsWell};
 
-    ghost Value = { List ℕ };
+    ghost Value = { Form };
 
-    ghost view = { λ f. bytes_of f.form };
+    ghost view = { λ f. f.form };
 
     ghost invariant = { λ f. IsWell f.form };
 }
@@ -55,28 +49,26 @@ fn fit_components(components: &[u32])
     let _all = components.len();
 }
 
-/// So is an epoch; a number is a word.
-fn fit_numbers(epoch: u32, number: u64, input: u64)
-    ensures epoch { epoch < 2 ^ 32 }
+/// A number is a word.
+fn fit_numbers(number: u64, input: u64)
     ensures number { number < 2 ^ 64 }
     ensures input { input < 2 ^ 64 }
 {}
 
-/// So are a packet's numbers.
+/// A packet's numbers are halves of one.
 fn fit_packet(seconds: u32, fraction: u32, original: u32)
     ensures seconds { seconds < 2 ^ 32 }
     ensures fraction { fraction < 2 ^ 32 }
     ensures original { original < 2 ^ 32 }
 {}
 
-/// What would be written of an output is a frame of it.
-fn is_frame(epoch: u32, threads: u32, output: &Output)
-    requires { CanPutOutput epoch threads output.now }
-    ensures { IsFrame (written (frame_is.Output epoch threads output.now))
-        (frame_is.Output epoch threads output.now) }
+/// An output that may be written has a frame.
+fn has_frame(threads: u32, output: &Output)
+    requires { CanPutOutput 1 threads output.now }
+    ensures { HasFrame threads output.now }
 {
     let packet = &output.packet;
-    fit_numbers(epoch, output.number, output.input);
+    fit_numbers(output.number, output.input);
     fit_packet(packet.seconds, packet.fraction, packet.original);
     let components = output.stamp.components();
     fit_components(components);
@@ -85,27 +77,22 @@ fn is_frame(epoch: u32, threads: u32, output: &Output)
 impl KeptFrame {
     /// The frame of these bytes, kept as they are.
     pub fn of_bytes(bytes: Bytes) -> Self
-        ensures { result ≡ bytes }
+        ensures { (epoch : ℕ) → bytes_of epoch result ≡ bytes }
     {
         KeptFrame {
             form: Form::Spelled(bytes),
         }
     }
 
-    /// The frame of an output of this epoch, of a sender with this number of threads, kept as the output.
-    pub fn of_output(epoch: u32, threads: u32, output: Output) -> Self
-        requires { CanPutOutput epoch threads output }
-        ensures spelled { result ≡ written (frame_is.Output epoch threads output) }
-        ensures frame { IsFrame (written (frame_is.Output epoch threads output))
-            (frame_is.Output epoch threads output) }
+    /// The frame of an output, of a sender with this number of threads, kept as the output.
+    pub fn of_output(threads: u32, output: Output) -> Self
+        requires { CanPutOutput 1 threads output }
+        ensures told { result ≡ Told threads output }
+        ensures frame { HasFrame threads output }
     {
-        is_frame(epoch, threads, &output);
+        has_frame(threads, &output);
         KeptFrame {
-            form: Form::Told(ToldOutput {
-                epoch,
-                threads,
-                output,
-            }),
+            form: Form::Told { threads, output },
         }
     }
 
@@ -113,44 +100,60 @@ impl KeptFrame {
     /// is 2^32 or more, as in no frame that was sent.
     pub fn entry(&self, alloc: Global) -> Result<Option<StampedEntry>, NoMemory>
         ensures { IfOk result (λ found. (epoch threads : ℕ) (e : EntryValue)
-            → IsFrame self.now (frame_is.Entry epoch threads e) → found ≡ Some e) }
+            → IsFrame (bytes_of epoch self.now) (frame_is.Entry epoch threads e)
+            → found ≡ Some e) }
     {
         match &self.form {
             Form::Spelled(bytes) => entry_in(alloc, bytes.as_slice()),
-            Form::Told(_) => Ok(None),
+            Form::Told { .. } => Ok(None),
         }
     }
 
     /// The output of the frame, if it is that of an output. It answers that memory ran out as `entry` does.
     pub fn output(&self, alloc: Global) -> Result<Option<Output>, NoMemory>
         ensures { IfOk result (λ found. (epoch threads : ℕ) (o : OutputValue)
-            → IsFrame self.now (frame_is.Output epoch threads o) → found ≡ Some o) }
+            → IsFrame (bytes_of epoch self.now) (frame_is.Output epoch threads o)
+            → found ≡ Some o) }
     {
         match &self.form {
             Form::Spelled(bytes) => output_in(alloc, bytes.as_slice()),
-            Form::Told(told) => Ok(Some(copy_output(alloc, &told.output)?)),
+            Form::Told { output, .. } => Ok(Some(copy_output(alloc, output)?)),
         }
     }
 
     /// The output itself, where the frame is kept as one.
     pub fn told(&self) -> Option<&Output>
         ensures { IfSome result (λ told. (epoch threads : ℕ) (o : OutputValue)
-            → IsFrame self.now (frame_is.Output epoch threads o) → told.now ≡ o) }
+            → IsFrame (bytes_of epoch self.now) (frame_is.Output epoch threads o)
+            → told.now ≡ o) }
     {
         match &self.form {
             Form::Spelled(_) => None,
-            Form::Told(told) => Some(&told.output),
+            Form::Told { output, .. } => Some(output),
         }
     }
 
     /// The output of the frame, as `output` has it: one that is kept as an output is moved out.
     pub fn into_output(self, alloc: Global) -> Result<Option<Output>, NoMemory>
         ensures { IfOk result (λ found. (epoch threads : ℕ) (o : OutputValue)
-            → IsFrame self (frame_is.Output epoch threads o) → found ≡ Some o) }
+            → IsFrame (bytes_of epoch self) (frame_is.Output epoch threads o) → found ≡ Some o) }
     {
         match self.form {
             Form::Spelled(bytes) => output_in(alloc, bytes.as_slice()),
-            Form::Told(told) => Ok(Some(told.output)),
+            Form::Told { threads: _, output } => Ok(Some(output)),
         }
+    }
+
+    /// Keeps the frame as the output that it tells. It answers that memory ran out where it is that of no output, or
+    /// where a component of the stamp is 2^32 or more.
+    pub fn tell(&mut self, alloc: Global) -> Result<(), NoMemory>
+        ensures told { OnOk result (IsTold self.new) }
+        ensures same { OnOk result ((epoch : ℕ) → Tells epoch self.old self.new) }
+    {
+        if let Form::Spelled(bytes) = &self.form {
+            let (threads, output) = sent_in(alloc, bytes.as_slice())?;
+            self.form = Form::Told { threads, output };
+        }
+        Ok(())
     }
 }

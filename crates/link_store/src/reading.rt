@@ -1,9 +1,10 @@
-ghost use Rattle.std.specs.Prelude.{◌≡◌, ℕ, Some, IfOk};
+ghost use Rattle.std.specs.Prelude.{◌≡◌, ℕ, Some, IfOk, IfSome};
 ghost use Rattle.wire_frames.specs.FromAccessLog.{Output as OutputValue};
 ghost use Rattle.wire_frames.specs.FromAccessLog.{StampedEntry as EntryValue};
 ghost use Rattle.wire_frames.specs.declared.frame.Frame.{Frame as FrameValue};
 ghost use Rattle.wire_frames.specs.declared.frame.Frame.TheVariants as frame_is;
-ghost use Rattle.wire_frames.specs.Layout.{IsFrame};
+ghost use Rattle.wire_frames.specs.Layout.{IsFrame, BeginsWith};
+ghost use Rattle.link_store.specs.Kept.{HasFrame};
 
 use plain_text::NoMemory;
 use std::alloc::Global;
@@ -48,7 +49,10 @@ fn output_of(frame: Frame) -> Result<Option<Output>, NoMemory>
 
 /// The frame that these bytes are, if they are one.
 fn frame_in(alloc: Global, bytes: &[u8]) -> Result<Option<Frame>, NoMemory>
-    ensures { IfOk result (λ found. (f : FrameValue) → IsFrame bytes.now f → found ≡ Some f) }
+    ensures same { IfOk result (λ found. (f : FrameValue) → IsFrame bytes.now f
+        → found ≡ Some f) }
+    ensures begins { IfOk result (λ found. IfSome found (λ f.
+        (size : ℕ) × BeginsWith bytes.now f size)) }
 {
     match take_frame(alloc, bytes) {
         Ok((frame, _)) => Ok(Some(frame)),
@@ -76,5 +80,31 @@ pub fn output_in(alloc: Global, bytes: &[u8]) -> Result<Option<Output>, NoMemory
     match frame_in(alloc, bytes)? {
         Some(frame) => output_of(frame),
         None => Ok(None),
+    }
+}
+
+/// The output whose frame these bytes are, and its sender's number of threads. It answers that memory ran out where they
+/// are no such frame, and as `entry_of` does.
+pub fn sent_in(alloc: Global, bytes: &[u8]) -> Result<(u32, Output), NoMemory>
+    ensures frame { IfOk result (λ sent. HasFrame sent.0 sent.1) }
+    ensures same { IfOk result (λ sent. (epoch threads : ℕ) (o : OutputValue)
+        → IsFrame bytes.now (frame_is.Output epoch threads o)
+        → (sent.0 ≡ threads) × (sent.1 ≡ o)) }
+{
+    match frame_in(alloc, bytes)? {
+        Some(Frame::Output {
+            epoch: _,
+            threads,
+            output,
+        }) => match output.into_output() {
+            Some(output) => Ok((threads, output)),
+            None => Err(NoMemory),
+        },
+        Some(Frame::Entry {
+            epoch: _,
+            threads: _,
+            entry: _,
+        })
+        | None => Err(NoMemory),
     }
 }

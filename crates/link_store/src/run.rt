@@ -1,8 +1,10 @@
 ghost use Rattle.std.specs.Prelude.{◌≡◌, ◌≢◌, ◌↔◌, ℕ, ◌+◌, ◌≤◌, [], ◌∷◌, IsTrue, IfSome, IfNone};
-ghost use Rattle.std.specs.Prelude.{IfOk, OnOk, OnErr, Some, length, option_copied};
+ghost use Rattle.std.specs.Prelude.{IfOk, OnOk, OnErr, Some, length, option_copied, option_map};
+ghost use Rattle.std.specs.Prelude.{◌-◌, ◌^◌, ◌<◌};
 ghost use Rattle.link_store.specs.declared.address.Address.{Address};
-ghost use Rattle.link_store.specs.Links.{frame_at, Sends, Forgets, IsUpTo, IsOfEpoch};
-ghost use Rattle.link_store.specs.Runs.{frames_of, later, Takes};
+ghost use Rattle.link_store.specs.Kept.{bytes_of, AreTold, TellsEach};
+ghost use Rattle.link_store.specs.Links.{frame_at, Sends, IsUpTo, IsPast};
+ghost use Rattle.link_store.specs.Runs.{frames_of, later, Takes, ForgetsIn, TurnsIn};
 
 use crate::{Address, KeptFrame};
 use plain_text::NoMemory;
@@ -16,17 +18,34 @@ use std::mem;
 pub struct Run {
     first: Address,
     frames: VecDeque<KeptFrame>,
+    /// How many of the first frames are known to be kept as outputs.
+    told: usize,
 }
 
 impl Model for Run {
-    ghost use Rattle.std.specs.Prelude.{◌+◌, ◌≤◌, ◌^◌, length};
-    ghost use Rattle.link_store.specs.Runs.{Run};
+    ghost use Rattle.link_store.specs.Runs.{Run, IsRun};
 
     ghost Value = { Run };
 
     ghost view = { λ r. record { first = r.first; frames = r.frames.items } };
 
-    ghost invariant = { λ r. r.first.number + length r.frames.items ≤ 2 ^ 64 };
+    ghost invariant = { λ r. IsRun (record { first = r.first; frames = r.frames.items }) r.told };
+}
+
+/// Keeps each of these frames as the output that it tells, of which the first are kept so, this number of them.
+fn tell_from(
+    alloc: Global,
+    from: usize,
+    frames: &mut VecDeque<KeptFrame>,
+) -> Result<(), NoMemory>
+    requires { AreTold from frames.old.items }
+    ensures as_many { length frames.new.items ≡ length frames.old.items }
+    ensures ok { OnOk result ((epoch : ℕ) → TellsEach epoch frames.old.items frames.new.items) }
+{
+    for i in from..frames.len() {
+        frames[i].tell(alloc)?;
+    }
+    Ok(())
 }
 
 impl Run {
@@ -36,7 +55,11 @@ impl Run {
     {
         let mut frames = VecDeque::new(alloc);
         frames.push_back(frame)?;
-        Ok(Run { first: at, frames })
+        Ok(Run {
+            first: at,
+            frames,
+            told: 0,
+        })
     }
 
     /// Whether no frame is there.
@@ -69,7 +92,8 @@ impl Run {
 
     /// The frame at this address.
     pub fn get(&self, at: &Address) -> Option<&KeptFrame>
-        ensures { option_copied result ≡ frame_at (frames_of self.now) at.now }
+        ensures { option_map (bytes_of at.now.epoch) (option_copied result)
+            ≡ frame_at (frames_of self.now) at.now }
     {
         self.frames.get(self.index_of(at)? as usize)
     }
@@ -77,10 +101,12 @@ impl Run {
     /// Puts a frame at this address, in the place of the one before or as the next.
     pub fn put(&mut self, at: &Address, frame: KeptFrame) -> Result<(), NoMemory>
         requires { Takes self.old at.now }
-        ensures ok { OnOk result (Sends (frames_of self.old) (frames_of self.new) at.now frame) }
+        ensures ok { OnOk result (Sends (frames_of self.old) (frames_of self.new) at.now
+            (bytes_of at.now.epoch frame)) }
         ensures err { OnErr result (self.new ≡ self.old) }
     {
         let place = (at.number - self.first.number) as usize;
+        self.told = self.told.min(place);
         if place < self.frames.len() {
             drop(mem::replace(&mut self.frames[place], frame));
         } else {
@@ -92,7 +118,7 @@ impl Run {
     /// Takes the first frame out, if it has this address.
     pub fn take_first(&mut self, at: &Address) -> Option<KeptFrame>
         ensures taken { IfSome result (λ frame. frame_at (frames_of self.old) at.now
-            ≡ Some frame) }
+            ≡ Some (bytes_of at.now.epoch frame)) }
         ensures others { (a : Address) → a ≢ at.now
             → frame_at (frames_of self.new) a ≡ frame_at (frames_of self.old) a }
         ensures none { IfNone result (self.new ≡ self.old) }
@@ -103,12 +129,13 @@ impl Run {
         }
         let frame = self.frames.pop_front()?;
         self.first.number = self.first.number.saturating_add(1);
+        self.told = self.told.saturating_sub(1);
         Some(frame)
     }
 
     /// Forgets the frames up to this address.
     pub fn forget(&mut self, last: &Address)
-        ensures { Forgets (IsUpTo last.now) (frames_of self.old) (frames_of self.new) }
+        ensures { ForgetsIn (IsUpTo last.now) self.old self.new }
     {
         if !self.first.is_beside(last) {
             return;
@@ -119,15 +146,36 @@ impl Run {
             }
             self.frames.pop_front();
             self.first.number = self.first.number.saturating_add(1);
+            self.told = self.told.saturating_sub(1);
         }
     }
 
-    /// Forgets the frames if they are of this epoch.
-    pub fn forget_epoch(&mut self, epoch: u32)
-        ensures { Forgets (IsOfEpoch epoch) (frames_of self.old) (frames_of self.new) }
+    /// Forgets the frames past this address.
+    pub fn forget_past(&mut self, last: &Address)
+        ensures { ForgetsIn (IsPast last.now) self.old self.new }
     {
-        if self.first.epoch == epoch {
-            self.frames.clear();
+        if !self.first.is_beside(last) {
+            return;
         }
+        match last.number.checked_sub(self.first.number) {
+            Some(behind) => self.frames.truncate(behind.saturating_add(1) as usize),
+            None => self.frames.clear(),
+        }
+    }
+
+    /// The outputs of this epoch are those of the next one. Frames of another epoch are forgotten, and those of entries.
+    pub fn turn(&mut self, alloc: Global, epoch: u32) -> Result<(), NoMemory>
+        requires { epoch < 2 ^ 32 - 1 }
+        ensures { OnOk result (TurnsIn epoch self.old self.new) }
+    {
+        if !self.first.is_output_of(epoch) {
+            self.frames.clear();
+            return Ok(());
+        }
+        let told = mem::replace(&mut self.told, 0);
+        tell_from(alloc, told, &mut self.frames)?;
+        self.told = self.frames.len();
+        self.first.epoch += 1;
+        Ok(())
     }
 }

@@ -6,7 +6,7 @@ ghost use Rattle.wire_frames.specs.FromAccessLog.{Output as OutputValue};
 ghost use Rattle.plain_text.specs.declared.kind.Kind.TheVariants as kind_is;
 ghost use Rattle.link_store.specs.Links.{frame_at};
 ghost use Rattle.wire_frames.specs.Writing.{CanPutEntry, CanPutOutput};
-ghost use Rattle.link_store.specs.Sending.{IsUnsent, SendsEntry, SendsOutput, SendsAgain};
+ghost use Rattle.link_store.specs.Sending.{IsUnsent, SendsEntry, SendsOutput};
 ghost use Rattle.link_store.specs.Sending.{CountsEntry, TakesOutput};
 ghost use Rattle.link_store.specs.Sending.{ForgetsEntries, ForgetsOutputs, BeginsEpoch, TurnsBack};
 ghost use Rattle.link_store.specs.Sending.{HasEntryFrame, HasOutputFrame, entry_address};
@@ -17,14 +17,12 @@ use crate::Links;
 use plain_text::{Bytes, Kind, NoMemory, Sequence};
 use std::alloc::Global;
 use std::marker::Model;
-use wire_frames::{
-    Output, StampedEntry, What, copy_output, entry_length, output_length, put_entry,
-};
+use wire_frames::{Output, StampedEntry, What, entry_length, output_length, put_entry};
 
 /// What a master sends on its links: each entry and each output as a frame, and how long each frame was.
 ///
-/// A frame is there until it is forgotten; its length stays. A new master has a new epoch: the frames of the one before
-/// are forgotten, and the lengths of what it did not make.
+/// A frame is there until it is forgotten; its length stays. A new master has a new epoch: what the one before sent and it
+/// did not make is forgotten, with its length; the other outputs stay on the links, as frames of the new epoch.
 #[derive(Drop)]
 pub struct SentFrames {
     alloc: Global,
@@ -214,16 +212,6 @@ impl SentFrames {
             .send(self.epoch, Kind::Out, thread, number, frame)
     }
 
-    /// Sends an output again, of which the length is known. After `NoMemory` the links are of no use any more.
-    pub fn send_again(&mut self, output: &Output) -> Result<(), NoMemory>
-        requires can { CanPutOutput self.old.epoch self.old.threads output.now }
-        ensures ok { OnOk result (SendsAgain self.old self.new output.now) }
-        ensures threads { self.new.threads ≡ self.old.threads }
-    {
-        let copy = copy_output(self.alloc, output)?;
-        self.links.send_output(self.epoch, self.threads, copy)
-    }
-
     /// The entry that was sent under this number, if its frame is not forgotten.
     pub fn entry(&self, thread: u32, number: u64) -> Result<Option<StampedEntry>, NoMemory>
         ensures there { IfOk result (λ found. (e : StampedEntry) → HasEntryFrame self.now e
@@ -297,22 +285,28 @@ impl SentFrames {
         self.links.forget(self.epoch, Kind::Out, thread, up_to);
     }
 
-    /// Ends the epoch: its frames are forgotten, and the next one begins. It takes no memory.
-    pub fn begin_epoch(&mut self)
+    /// Ends the epoch, and begins the next one: the outputs on the links stay there, as frames of this epoch, and those of
+    /// entries are forgotten. Outputs that were sent as frames are read, once, and take memory then. After `NoMemory` the
+    /// links are of no use any more.
+    pub fn begin_epoch(&mut self) -> Result<(), NoMemory>
         requires { self.old.epoch < 2 ^ 32 - 1 }
-        ensures begins { BeginsEpoch self.old self.new }
+        ensures ok { OnOk result (BeginsEpoch self.old self.new) }
+        ensures threads { self.new.threads ≡ self.old.threads }
     {
-        self.links.forget_epoch(self.epoch);
+        self.links.turn_epoch(self.epoch)?;
         self.epoch += 1;
+        Ok(())
     }
 
-    /// Counts only this number of a thread's entries as sent, and only this number of its outputs: the first ones. It
-    /// takes no memory.
+    /// Counts only this number of a thread's entries as sent, and only this number of its outputs: the first ones. The
+    /// frames of its later outputs are forgotten. It takes no memory.
     pub fn turn_back(&mut self, thread: u32, entries: u64, outputs: u64)
         requires { thread < self.old.threads }
         ensures { TurnsBack self.old self.new thread entries outputs }
     {
         self.entries[thread as usize].truncate(entries as usize);
         self.outputs[thread as usize].truncate(outputs as usize);
+        self.links
+            .forget_past(self.epoch, Kind::Out, thread, outputs);
     }
 }

@@ -4,8 +4,8 @@ use Rattle.link_store.proofs.reading.entry_in.Goals as goal
 pub returns-in-Some : goal.returns-in-Some
 returns-in-Some c =
     IfOk-weaker c.entry_of.result _ _
-    (λ found each epoch threads e is. let read = c.in_ok-frame.ensures _ is in each epoch threads e (cc))
+    (λ found each epoch threads e is. let read = c.in_ok-frame.ensures.same _ is in each epoch threads e (cc))
     c.entry_of.ensures
 
 pub returns-in-None : goal.returns-in-None
-returns-in-None c epoch threads e is = let found = c.in_ok-frame.ensures _ is in absurd (cc)
+returns-in-None c epoch threads e is = let found = c.in_ok-frame.ensures.same _ is in absurd (cc)

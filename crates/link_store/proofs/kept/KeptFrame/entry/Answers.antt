@@ -2,14 +2,25 @@ use Rattle.std.proofs.Common.{◌≡◌, ℕ, List, sym, ap, ◌∙◌, subst}
 use Rattle.std.proofs.lemmas.Result.{IfOk-weaker}
 use Rattle.wire_frames.specs.declared.frame.Frame.TheVariants as frame
 use Rattle.wire_frames.specs.Layout.{IsFrame}
-use Rattle.link_store.specs.Kept.{bytes_of}
+use Rattle.link_store.specs.declared.kept.Form.{Form}
+use Rattle.link_store.specs.Kept.{bytes_of, IsWell}
+use Rattle.link_store.proofs.KeptLemmas.{no_entry}
 use Rattle.link_store.proofs.kept.KeptFrame.entry.Goals as goal
 
 pub returns-in-Spelled : goal.returns-in-Spelled
 returns-in-Spelled c =
-    let same : c.as_slice.result.now ≡ c.args.self.now =
-    c.as_slice.ensures ∙ sym (ap bytes_of c.in-Spelled.is) ∙ c.self.view_is in
+    let same : (epoch : ℕ) → c.as_slice.result.now ≡ bytes_of epoch c.args.self.now = λ epoch.
+    c.as_slice.ensures
+    ∙ sym (ap (λ (f : Form). bytes_of epoch f) c.in-Spelled.is)
+    ∙ ap (λ (f : Form). bytes_of epoch f) c.self.view_is in
     IfOk-weaker c.entry_in.result _ _
     (λ found each epoch threads e is.
-    each epoch threads e (subst (λ (l : List ℕ). IsFrame l (frame.Entry epoch threads e)) (sym same) is))
+    each epoch threads e (subst (λ (l : List ℕ). IsFrame l (frame.Entry epoch threads e)) (sym (same epoch)) is))
     c.entry_in.ensures
+
+pub returns-in-Told : goal.returns-in-Told
+returns-in-Told c epoch threads e is =
+    let well = subst IsWell c.in-Told.is c.self.invariant in
+    let same = sym c.self.view_is ∙ c.in-Told.is in
+    let here = subst (λ (f : Form). IsFrame (bytes_of epoch f) (frame.Entry epoch threads e)) same is in
+    absurd (no_entry epoch c.in-Told.threads c.in-Told.output well threads e here)

@@ -4,6 +4,7 @@ use Rattle.link_store.specs.declared.address.Address.{Address}
 use Rattle.link_store.specs.Beside.{IsBeside}
 use Rattle.link_store.specs.Links.{IsUpTo}
 use Rattle.link_store.proofs.RunLemmas.{none_beside, none_up_to, drops_first, below_min, is_min}
+use Rattle.link_store.proofs.ToldLemmas.{told_drop}
 use Rattle.link_store.proofs.run.Run.forget.Goals as goal
 
 pub returns-then-not-is_beside : goal.returns-then-not-is_beside
@@ -25,6 +26,7 @@ loop-self-preserved c =
     rw c.pop_front.ensures.rest (record {
       beside = record { epoch = inv.beside.epoch; kind = inv.beside.kind; thread = inv.beside.thread };
       fits = omega (arith, inv.fits);
+      told = rw c.saturating_sub-self-inside.ensures (told_drop s.told s.frames.items inv.told);
       others = λ a apart.
           drops_first s.frames.items s.first c.args.last.now next inv.beside (omega arith) follows a apart
           ∙ inv.others a apart;

@@ -2,6 +2,7 @@ use Rattle.std.proofs.Common.{◌≡◌, ◌+◌, ◌≤◌, ◌^◌, length}
 use Rattle.std.specs.VecDeque.{deque_len}
 use Rattle.link_store.specs.declared.address.Address.{Address}
 use Rattle.link_store.specs.Beside.{IsBeside}
+use Rattle.link_store.specs.Kept.{AreTold}
 use Rattle.link_store.specs.Links.{frame_at, IsUpTo}
 use Rattle.link_store.specs.Runs.{in_turn}
 use Rattle.link_store.proofs.run.Run.forget.Given as goal
@@ -10,6 +11,7 @@ abbrev pub invariant-loop-self : goal.invariant-loop-self
 invariant-loop-self l = record {
   beside : IsBeside l.self-inside.first l.last;
   fits : l.self-inside.first.number + length l.self-inside.frames.items ≤ 2 ^ 64;
+  told : AreTold l.self-inside.told l.self-inside.frames.items;
   others : (a : Address) → (IsUpTo l.last a → ⊥)
       → frame_at (in_turn l.self-inside.first l.self-inside.frames.items) a
       ≡ frame_at (in_turn l.initial.self-inside.first l.initial.self-inside.frames.items) a;

@@ -1,4 +1,6 @@
 use Rattle.std.proofs.Common.{sym, subst, arith, List, ℕ, length, slice_set, ◌-◌, ◌<◌, ◌≤◌}
+use Rattle.link_store.specs.declared.kept.Form.{Form}
+use Rattle.link_store.specs.Kept.{bytes_of}
 use Rattle.link_store.specs.Links.{Sends}
 use Rattle.link_store.specs.Runs.{Run, Takes, in_turn}
 use Rattle.link_store.proofs.RunLemmas.{puts_set, puts_next}
@@ -12,9 +14,9 @@ returns-then-place-len-clause-ok c =
     let len = s.frames.ok.0 in
     let low : at.number - s.first.number < length s.frames.items =
     omega (arith, c.if-place-len.true, c.len.ensures) in
-    let After : List ℕ → Type 0 =
+    let After : Form → Type 0 =
     λ g. Sends (in_turn s.first s.frames.items)
-    (in_turn s.first (slice_set s.frames.items (at.number - s.first.number) g)) at c.args.frame in
+    (in_turn s.first (slice_set s.frames.items (at.number - s.first.number) g)) at (bytes_of at.epoch c.args.frame) in
     rw (← c.self.view_is)
     (subst After (sym c.replace.ensures.after) (puts_set s.first s.frames.items at c.args.frame takes low))
 

@@ -1,5 +1,6 @@
 use Rattle.std.proofs.Common.{sym, subst}
 use Rattle.std.proofs.lemmas.Option.{IfSome_then}
+use Rattle.link_store.specs.Kept.{bytes_of}
 use Rattle.link_store.specs.Sending.{Sending, HasOutputFrame}
 use Rattle.link_store.proofs.FrameLemmas.{output_bytes}
 use Rattle.link_store.proofs.sending.SentFrames.told.Goals as goal
@@ -9,5 +10,5 @@ returns c =
     IfSome_then c.told.result c.told.ensures
     (λ x each o has a b.
     let now = subst (λ (q : Sending). HasOutputFrame q o) (sym c.self.view_is) has in
-    let is = output_bytes _ o c.args.thread c.args.number c.in_ok-frame.frame.now now a b c.in_ok-frame.ensures.frame in
+    let is = output_bytes _ o c.args.thread c.args.number (bytes_of c.self.inside.epoch c.in_ok-frame.frame.now) now a b c.in_ok-frame.ensures.frame in
     each c.self.inside.epoch c.self.inside.threads o is)
