@@ -28,7 +28,7 @@ parts_up a b m some up = le-div (a / m) b m some (let low = div-mul-le_self a m 
 across_up : (many a b : ℕ) → a ≤ b → across many a ≤ across many b
 across_up many a b up =
     let parts = parts_up (min a 10000000000000000 * 1000) (min b 10000000000000000 * 1000) (max 1 many)
-        (omega arith) (omega (arith, up)) in
+    (omega arith) (omega (arith, up)) in
     capped_up _ _ parts
   where
     capped_up : (x y : ℕ) → x ≤ y → 120 + min x 1000 ≤ 120 + min y 1000
@@ -63,6 +63,7 @@ came_rise every many first so i (t ∷ times) =
   where
     up : so ≤ max so (t - first)
     up = omega arith
+
     by : (b : Bool)
         → RisesAll (max so (t - first)) (came_from every many first (max so (t - first)) (i + 1) times)
         → RisesAll so ((if b then came_sample (max so (t - first)) (i + 1) ∷ [] else [])
@@ -73,9 +74,10 @@ came_rise every many first so i (t ∷ times) =
 steps_rise : (times : List ℕ) (before : Sample) (notes : List Note)
     → RisesAll before.index (steps_from times before notes)
 steps_rise times before [] = tt
-steps_rise times before (n ∷ later) =
-    (latest_up (first_time times) before.index (take n.fed times),
-    (omega arith, steps_rise times (sample_of (time_of times before n) n) later))
+steps_rise times before (n ∷ later) = (
+  latest_up (first_time times) before.index (take n.fed times),
+  (omega arith, steps_rise times (sample_of (time_of times before n) n) later),
+)
 
 curve_right : (c : Count) (many most : ℕ) (samples : List Sample) → RisesAll 0 samples
     → IsNonDecreasing (line_places (curve c many most samples).shape)
@@ -176,6 +178,7 @@ curves_end times notes =
     ends c s samples n is =
         height_of c (span_of times notes) (most_from 0 notes) s samples
         ∙ ap (λ (k : ℕ). Some (upwards (most_from 0 notes) k)) is
+
     three : {a b c x y z : Option ℕ} → a ≡ x → b ≡ y → c ≡ z → a ∷ b ∷ c ∷ [] ≡ x ∷ y ∷ z ∷ []
     three {a} {b} {c} {x} {y} {z} one two last =
         ap (λ (o : Option ℕ). o ∷ b ∷ c ∷ []) one
