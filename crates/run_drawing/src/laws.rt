@@ -73,7 +73,7 @@ pub fn a_chart_by_time_has_all_counts()
 {}
 
 /// A curve of a chart by time stands at the count before an event until the time of the last packet that came in with it,
-/// and from there on at the count after it. So no output is shown released before a packet that its event needed.
+/// and from there on at the count after it. So no output is shown released before the packets of its event came in.
 pub fn no_count_changes_before_its_event()
     ensures { (c : count_of.Count) (span : ℕ) (most : ℕ) (times : List ℕ) (earlier : List note_of.Note)
         (n : note_of.Note) → points_from c span most (steps_of times (earlier ++ n ∷ []))
