@@ -15,7 +15,7 @@ use Rattle.run_drawing.specs.Noted.{movers_noted, moves_noted, note_of}
 use Rattle.run_drawing.specs.Picture.{are_short}
 use Rattle.noted_runs.proofs.Growth.{any_shares, told_shared}
 
-noted_sound : {V : Type 0} (s : Setting V) (events : List Event) (notes : List Note) (w : SystemWorld V)
+pub noted_sound : {V : Type 0} (s : Setting V) (events : List Event) (notes : List Note) (w : SystemWorld V)
     → Noted s events notes w → Sound s w
 noted_sound s events notes w Opens = opening_sound s
 noted_sound s events notes w (Goes {events = before} {notes = earlier} {w = there} ev to freed rest on) =

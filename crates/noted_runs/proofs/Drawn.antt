@@ -31,13 +31,16 @@ use Rattle.run_drawing.specs.Picture.{at_first, picture}
 use Rattle.run_drawing.proofs.MovesShown.{moves_shown}
 use Rattle.run_drawing.proofs.ReleasesShown.{releases_shown}
 use Rattle.run_drawing.proofs.SlicesWhole.{whole_slices}
+use Rattle.run_drawing.proofs.TimeCurves.{curves_right}
 use Rattle.noted_runs.specs.declared.picture.running.Gone.{Gone}
 use Rattle.noted_runs.specs.declared.picture.picturing.Texts.{Texts}
 use Rattle.noted_runs.specs.PictureGoing.{HasGone}
 use Rattle.noted_runs.specs.Noting.{AreInputs, IsHalted}
-use Rattle.noted_runs.specs.Picture.{HasBegunPicture, HasPictured, HasStopped, picture_text, picture_writes}
+use Rattle.noted_runs.specs.Picture.{HasBegunPicture, HasPictured, HasStopped, picture_text, picture_times}
+use Rattle.noted_runs.specs.Picture.{picture_writes}
 use Rattle.noted_runs.specs.Picturing.{ComesTo, IsDrawn, IsHalt, WritesPicture}
 use Rattle.noted_runs.proofs.AllNoted.{movers_all, moves_all}
+use Rattle.noted_runs.proofs.CurvesEnd.{counts_end}
 use Rattle.noted_runs.proofs.PicturePerformed.{stands_same}
 
 -- The texts
@@ -49,25 +52,29 @@ line_is s events gone h =
     ∙ (ap (λ (n : ℕ). counts_line h.world.fed n gone.released) h.epoch
     ∙ ap (λ (n : ℕ). counts_line h.world.fed h.world.epoch n) h.released)
 
-pub text_is : (title words last slice : List ℕ) (threads : ℕ) (notes all : List Note) (text : List ℕ)
-    → text ≡ drawing_text (picture words slice threads all) → words ≡ title → slice ≡ last → all ≡ notes
-    → text ≡ picture_text title last threads notes
+pub text_is : (title words last slice : List ℕ) (threads : ℕ) (times : List ℕ) (notes all : List Note) (text : List ℕ)
+    → text ≡ drawing_text (picture words slice threads times all) → words ≡ title → slice ≡ last → all ≡ notes
+    → text ≡ picture_text title last threads times notes
 unfolding picture_text
-text_is title words last slice threads notes all text is named same every =
+text_is title words last slice threads times notes all text is named same every =
     is
-    ∙ (ap (λ (l : List ℕ). drawing_text (picture l slice threads all)) named
-    ∙ (ap (λ (l : List ℕ). drawing_text (picture title l threads all)) same
-    ∙ ap (λ (n : List Note). drawing_text (picture title last threads n)) every))
+    ∙ (ap (λ (l : List ℕ). drawing_text (picture l slice threads times all)) named
+    ∙ (ap (λ (l : List ℕ). drawing_text (picture title l threads times all)) same
+    ∙ ap (λ (n : List Note). drawing_text (picture title last threads times n)) every))
 
 pub drawn : {V : Type 0} (title : List ℕ) (s : Setting V) (events : List Event) (gone : Gone)
-    (h : HasGone s events gone) (texts : Texts)
-    → texts.picture ≡ picture_text title (counts_line gone.fed gone.epoch gone.released) s.threads gone.notes
+    (h : HasGone s events gone) (times : List ℕ) (texts : Texts) → times ≡ picture_times s
+    → texts.picture ≡ picture_text title (counts_line gone.fed gone.epoch gone.released) s.threads times gone.notes
     → texts.report ≡ counts_line gone.fed gone.epoch gone.released → IsDrawn title s events texts
 unfolding picture_text
-drawn title s events gone h texts text report =
+drawn title s events gone h times texts are text report =
     let last = line_is s events gone h in
-    let same : texts.picture ≡ picture_text title (done_line h.world) s.threads gone.notes =
-    text ∙ ap (λ (l : List ℕ). picture_text title l s.threads gone.notes) last in
+    let all = picture_times s in
+    let counts = counts_line gone.fed gone.epoch gone.released in
+    let same : texts.picture ≡ picture_text title (done_line h.world) s.threads all gone.notes =
+    text
+    ∙ (ap (λ (l : List ℕ). picture_text title counts s.threads l gone.notes) are
+    ∙ ap (λ (l : List ℕ). picture_text title l s.threads all gone.notes) last) in
     record {
       world = h.world;
       pictures = record {
@@ -75,10 +82,12 @@ drawn title s events gone h texts text report =
         noted = h.noted;
         text_is = same;
         well_formed = subst IsWellFormed (sym same)
-            (picture_well_formed (picture title (done_line h.world) s.threads gone.notes));
+            (picture_well_formed (picture title (done_line h.world) s.threads all gone.notes));
         movers_are_all = movers_all s events gone.notes h.world h.noted;
         moves_are_all = moves_all s events gone.notes h.world h.noted;
         slices_are_all = λ thread. whole_slices thread gone.notes;
+        curves_go_right = curves_right all gone.notes;
+        counts_are_all = counts_end s events gone.notes h.world h.noted;
         moves_marked = moves_shown s.threads gone.notes at_first;
         releases_marked = releases_shown s.threads gone.notes at_first;
       };

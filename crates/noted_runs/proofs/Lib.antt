@@ -15,6 +15,7 @@ pub mod SeenLemmas
 pub mod TracingLemmas
 pub mod LawLemmas
 pub mod AllNoted
+pub mod CurvesEnd
 pub mod Drawn
 pub mod Growth
 pub mod MovesNoted

@@ -7,6 +7,7 @@ mod noting;
 mod performing;
 mod picturing;
 mod running;
+mod times;
 
 pub use laws::all_moves_are_noted;
 pub use picturing::run_picture;

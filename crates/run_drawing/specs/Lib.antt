@@ -7,3 +7,4 @@ pub mod Promises
 pub mod Scales
 pub mod Slices
 pub mod Standing
+pub mod TimeChart

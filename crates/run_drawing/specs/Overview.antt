@@ -1,6 +1,6 @@
--- The overview of a long run: how many packets came in, how many outputs were released and how many wait, against the
--- number of events: at the opening, after 200 of the events at most, and after the last; where an epoch began; and how
--- many moves each thread made. Scales tell the numbers.
+-- The chart of a long run: how many packets came in, how many outputs were released and how many wait, against the
+-- number of events: at the opening, after 200 of the events at most, and after the last; and where an epoch began.
+-- Scales tell the numbers.
 use Rattle.std.specs.Prelude.{ℕ, ◌+◌, ◌/◌, ◌%◌, ◌==◌, ◌||◌, max, nat_eq, if◌then◌else◌, List, [], ◌∷◌, ◌++◌}
 use Rattle.std.specs.Prelude.{None, Some, codes, decimal, length}
 use Rattle.svg_text.specs.declared.class.Class.{Class}
@@ -14,7 +14,7 @@ use Rattle.run_drawing.specs.declared.samples.Sample.{Sample}
 use Rattle.run_drawing.specs.declared.samples.Count.{Count}
 use Rattle.run_drawing.specs.declared.samples.Count.TheVariants as count
 use Rattle.run_drawing.specs.Scales.{across, upwards}
-use Rattle.run_drawing.specs.Slices.{floors_of, number_at, word_at}
+use Rattle.run_drawing.specs.Slices.{number_at, word_at}
 
 -- Samples
 
@@ -94,8 +94,9 @@ axis = record {
   shape = shape.Line (record { x = 120; y = 260 }) (record { x = 1120; y = 260 });
 }
 
-abbrev pub axis_elements : List Element
-axis_elements = axis ∷ word_at 1130 264 (codes "events") ∷ []
+-- with the word of what stands along it
+abbrev pub axis_elements : List ℕ → List Element
+axis_elements word = axis ∷ word_at 1130 264 word ∷ []
 
 -- Scales: at both ends and in the middle of an axis the number that stands there
 
@@ -114,9 +115,12 @@ count_mark most n = number_at 100 (upwards most n) n
 abbrev pub event_mark : ℕ → ℕ → List Element
 event_mark many i = number_at (across many i) 272 i
 
+abbrev pub count_marks : ℕ → List Element
+count_marks most = count_mark most 0 ++ count_mark most (most / 2) ++ count_mark most most
+
 abbrev pub scales : ℕ → ℕ → List Element
 scales many most =
-    (counts_axis ∷ []) ++ (count_mark most 0 ++ count_mark most (most / 2) ++ count_mark most most)
+    (counts_axis ∷ []) ++ count_marks most
     ++ (event_mark many 0 ++ event_mark many (many / 2) ++ event_mark many many)
 
 -- a thing of the legend with its word
@@ -139,19 +143,16 @@ bar_key = key_of 840 class.Bar (shape.Rectangle (record { x = 840; y = 272 }) 18
 abbrev pub other_keys : List Element
 other_keys = line_key 680 class.Crash (codes "a new epoch") ++ bar_key
 
--- The overview
+-- The chart
 
-abbrev pub curves : ℕ → ℕ → List Sample → List Element
-curves many most samples =
-    curve count.Fed many most samples ∷ curve count.Left many most samples ∷ curve count.Held many most samples ∷ []
+-- the curve of the packets of some samples, and those of the outputs of others
+abbrev pub curves : ℕ → ℕ → List Sample → List Sample → List Element
+curves many most came samples =
+    curve count.Fed many most came ∷ curve count.Left many most samples ∷ curve count.Held many most samples ∷ []
 
 abbrev pub chart_of : ℕ → ℕ → List Sample → List Element
 chart_of many most samples =
-    axis_elements ++ scales many most ++ epochs_from many 1 samples ++ curves many most samples
+    axis_elements (codes "events") ++ scales many most ++ epochs_from many 1 samples ++ curves many most samples samples
 
-abbrev pub chart : List Note → List Element
-chart notes = chart_of (length notes) (most_from 0 notes) (samples_of notes)
-
--- of so many threads
-abbrev pub overview : ℕ → List Note → List Element
-overview threads notes = chart notes ++ (curve_keys ++ other_keys) ++ floors_of threads notes
+abbrev pub event_chart : List Note → List Element
+event_chart notes = chart_of (length notes) (most_from 0 notes) (samples_of notes)

@@ -24,9 +24,9 @@ use Rattle.run_drawing.specs.declared.note.Cell.{Cell}
 use Rattle.run_drawing.specs.declared.note.Note.{Note}
 use Rattle.run_drawing.specs.Marks.{access_before, arrow_from, entry_with, mark_of, move_title, shape_of}
 use Rattle.run_drawing.specs.Marks.{var_of}
-use Rattle.run_drawing.specs.Overview.{overview}
 use Rattle.run_drawing.specs.Places.{arrivals, columns, entry_lane, in_cell, left, output_lane, top, width}
 use Rattle.run_drawing.specs.Scales.{overview_high}
+use Rattle.run_drawing.specs.TimeChart.{overview}
 
 -- Moves
 
@@ -277,10 +277,10 @@ are_short notes = list_all (λ (n : Note). nat_le n.moves 400) notes
 abbrev pub is_small : List Note → Bool
 is_small notes = are_short notes && nat_le (columns 0 notes) 400
 
--- and else told in an overview
-abbrev pub drawn_elements : ℕ → List Note → List Element
-drawn_elements threads notes =
-    if is_small notes then run_elements (columns 0 notes) threads notes else overview threads notes
+-- and else told in an overview, with these times of the packets
+abbrev pub drawn_elements : ℕ → List ℕ → List Note → List Element
+drawn_elements threads times notes =
+    if is_small notes then run_elements (columns 0 notes) threads notes else overview threads times notes
 
 -- It is as wide as its columns, and an overview 1300, however long the run is.
 abbrev pub wide_of : List Note → ℕ
@@ -289,10 +289,10 @@ wide_of notes = if is_small notes then max 1300 (left (columns 0 notes) + 40) el
 abbrev pub high_of : ℕ → List Note → ℕ
 high_of threads notes = if is_small notes then max 300 (top (threads + 4) + 20) else overview_high threads
 
-abbrev pub picture : List ℕ → List ℕ → ℕ → List Note → Drawing
-picture title last threads notes = record {
+abbrev pub picture : List ℕ → List ℕ → ℕ → List ℕ → List Note → Drawing
+picture title last threads times notes = record {
   width = wide_of notes;
   height = high_of threads notes;
   title = title;
-  elements = frame_elements (wide_of notes) (high_of threads notes) title last ++ drawn_elements threads notes;
+  elements = frame_elements (wide_of notes) (high_of threads notes) title last ++ drawn_elements threads times notes;
 }

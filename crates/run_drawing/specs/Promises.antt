@@ -1,7 +1,7 @@
 -- What a picture shows of the moves and of the released outputs, in order; and how far its parts reach.
 use Rattle.std.specs.Prelude.{ℕ, zero, suc, ◌+◌, ◌-◌, ◌*◌, ◌/◌, ◌||◌, max, min, Bool, true, false, List, []}
 use Rattle.std.specs.Prelude.{◌∷◌, ◌++◌, filter, map, codes, decimal, length}
-use Rattle.std.specs.Prelude.{Option, Some}
+use Rattle.std.specs.Prelude.{Option, None, Some, take}
 use Rattle.std.specs.List.{flat_map}
 use Rattle.svg_text.specs.declared.class.Class.{Class}
 use Rattle.svg_text.specs.declared.class.Class.TheVariants as class
@@ -10,7 +10,11 @@ use Rattle.svg_text.specs.declared.drawing.Point.{Point}
 use Rattle.svg_text.specs.declared.drawing.Shape.{Shape}
 use Rattle.svg_text.specs.declared.drawing.Shape.TheVariants as shape
 use Rattle.run_drawing.specs.declared.note.Note.{Note}
+use Rattle.run_drawing.specs.declared.samples.Count.{Count}
+use Rattle.run_drawing.specs.declared.samples.Count.TheVariants as count
 use Rattle.run_drawing.specs.Marks.{move_title}
+use Rattle.run_drawing.specs.Scales.{across, upwards}
+use Rattle.run_drawing.specs.TimeChart.{first_time, latest}
 
 -- the classes of the marks of moves
 abbrev pub is_move : Class → Bool
@@ -96,3 +100,41 @@ is_placed _ = true
 -- the x of each mark, sign and number, in the order in which they are drawn
 abbrev pub places : List Element → List ℕ
 places elements = map (λ (e : Element). place_of e.shape) (filter (λ (e : Element). is_placed e.class) elements)
+
+-- Charts by time
+
+-- the x of each point of a curve
+abbrev pub line_places : Shape → List ℕ
+line_places (shape.Polyline points) = map (λ (p : Point). p.x) points
+line_places _ = []
+
+-- how high the last of points stands
+abbrev pub last_height : List Point → Option ℕ
+last_height [] = None
+last_height (p ∷ []) = Some p.y
+last_height (p ∷ q ∷ points) = last_height (q ∷ points)
+
+-- how high a curve ends
+abbrev pub end_of : Shape → Option ℕ
+end_of (shape.Polyline points) = last_height points
+end_of _ = None
+
+-- the place of a count at a time
+abbrev pub spot_at : ℕ → ℕ → ℕ → ℕ → Point
+spot_at span most time number = record { x = across span time; y = upwards most number }
+
+-- what is counted after an event
+abbrev pub note_count : Count → Note → ℕ
+note_count count.Fed n = n.fed
+note_count count.Left n = n.released
+note_count count.Held n = n.waiting
+
+-- and after the last of some; this, where there is none
+abbrev pub last_count : Count → ℕ → List Note → ℕ
+last_count c before [] = before
+last_count c before (n ∷ later) = last_count c (note_count c n) later
+
+-- the time until which these events lead, since the first packet: the latest of the packets that came in
+abbrev pub time_until : List ℕ → ℕ → List Note → ℕ
+time_until times so [] = so
+time_until times so (n ∷ later) = time_until times (latest (first_time times) so (take n.fed times)) later

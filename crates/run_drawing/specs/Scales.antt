@@ -1,10 +1,10 @@
--- Where things stand in an overview, which is 1300 wide: events to the right, counts upwards, and below them a floor
--- for each thread, on which its bars stand.
+-- Where things stand in an overview, which is 1300 wide: events or times to the right, counts upwards, and below them a
+-- floor for each thread, on which its bars stand.
 use Rattle.std.specs.Prelude.{ℕ, ◌+◌, ◌-◌, ◌*◌, ◌/◌, max, min}
 
--- the event at this place, from 0, of so many
+-- the event at this place, from 0, of so many; or this time of a span of so much
 abbrev pub across : ℕ → ℕ → ℕ
-across many i = 120 + min (min i 1000000000 * 1000 / max 1 many) 1000
+across many i = 120 + min (min i 10000000000000000 * 1000 / max 1 many) 1000
 
 -- a count, where the greatest is this
 abbrev pub upwards : ℕ → ℕ → ℕ

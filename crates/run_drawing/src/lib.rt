@@ -18,10 +18,14 @@ mod samples;
 mod scales;
 mod signs;
 mod slices;
+mod time_chart;
+mod time_curves;
+mod time_ground;
 
 pub use laws::{
-    an_overview_is_1300_wide, every_move_has_one_mark, every_released_output_has_one_full_mark,
-    no_release_stands_left_of_its_send, slices_have_all_moves,
+    a_chart_by_time_goes_right, a_chart_by_time_has_all_counts, an_overview_is_1300_wide,
+    every_move_has_one_mark, every_released_output_has_one_full_mark,
+    no_count_changes_before_its_event, no_release_stands_left_of_its_send, slices_have_all_moves,
 };
 pub use note::{Cell, Movers, Note};
 pub use picture::put_picture;

@@ -1,14 +1,12 @@
-ghost use Rattle.std.specs.Prelude.{◌≡◌, ◌++◌, ◌∷◌, ◌≤◌, ◌/◌, [], IfOk, OnOk, length};
-ghost use Rattle.run_drawing.specs.Overview.{axis_elements, chart as chart_for, chart_of, counted};
+ghost use Rattle.std.specs.Prelude.{◌≡◌, ◌++◌, ◌∷◌, ◌≤◌, ◌/◌, [], IfOk, OnOk, codes, length};
+ghost use Rattle.run_drawing.specs.Overview.{axis_elements, chart_of, count_marks, counted};
 ghost use Rattle.run_drawing.specs.Overview.{count_class, count_mark, counts_axis, curve, curves};
-ghost use Rattle.run_drawing.specs.Overview.{epoch_line, epochs_from, event_mark, first_sample};
-ghost use Rattle.run_drawing.specs.Overview.{most_from, overview, point_at, points_from};
+ghost use Rattle.run_drawing.specs.Overview.{epoch_line, epochs_from, event_chart, event_mark};
+ghost use Rattle.run_drawing.specs.Overview.{first_sample, most_from, point_at, points_from};
 ghost use Rattle.run_drawing.specs.Overview.{sample_of, samples_from, scales};
 
 use crate::Note;
-use crate::bars::put_floors;
 use crate::ground::{put_number, words};
-use crate::keys::put_keys;
 use crate::marks::put_named;
 use crate::samples::{Count, Sample};
 use crate::scales::{across, upwards};
@@ -17,7 +15,7 @@ use std::alloc::Global;
 use svg_text::{Class, Element, Elements, Point, Points, Shape};
 
 /// What stands before any event.
-fn first() -> Sample
+pub fn first() -> Sample
     ensures { result ≡ first_sample }
 {
     Sample {
@@ -29,8 +27,8 @@ fn first() -> Sample
     }
 }
 
-/// What stands after the event of this number, from 1.
-fn sample(index: u64, note: &Note) -> Sample
+/// What stands after the event of this number, from 1, or at this time.
+pub fn sample(index: u64, note: &Note) -> Sample
     ensures { result ≡ sample_of index note.now }
 {
     Sample {
@@ -61,7 +59,7 @@ fn take_samples(alloc: Global, every: u64, notes: &[Note]) -> Result<Vec<Sample>
 }
 
 /// The greatest count.
-fn most_of(notes: &[Note]) -> u64
+pub fn most_of(notes: &[Note]) -> u64
     ensures { result ≡ most_from 0 notes.now }
 {
     let mut most = 0u64;
@@ -155,7 +153,7 @@ fn line_of(alloc: Global, many: u64, sample: Sample) -> Result<Element, NoMemory
 }
 
 /// Appends a line for each sample that has another epoch than the one before it.
-fn put_epochs(
+pub fn put_epochs(
     alloc: Global,
     out: &mut Elements,
     many: u64,
@@ -174,8 +172,8 @@ fn put_epochs(
 }
 
 /// Appends the axis with its word.
-fn put_axis(alloc: Global, out: &mut Elements) -> Result<(), NoMemory>
-    ensures { OnOk result (out.new ≡ out.old ++ axis_elements) }
+pub fn put_axis(alloc: Global, out: &mut Elements, word: &[u8]) -> Result<(), NoMemory>
+    ensures { OnOk result (out.new ≡ out.old ++ axis_elements word.now) }
 {
     out.push(Element {
         class: Class::Lane,
@@ -186,11 +184,11 @@ fn put_axis(alloc: Global, out: &mut Elements) -> Result<(), NoMemory>
         },
     })?;
     let at = Point { x: 1130, y: 264 };
-    out.push(words(alloc, Class::Label, at, b"events")?)
+    out.push(words(alloc, Class::Label, at, word)?)
 }
 
 /// Appends the axis of the counts.
-fn put_counts_axis(out: &mut Elements) -> Result<(), NoMemory>
+pub fn put_counts_axis(out: &mut Elements) -> Result<(), NoMemory>
     ensures { OnOk result (out.new ≡ out.old ++ counts_axis ∷ []) }
 {
     out.push(Element {
@@ -220,9 +218,8 @@ fn put_place(alloc: Global, out: &mut Elements, many: u64, index: u64) -> Result
 }
 
 /// Appends the numbers of the counts.
-fn put_count_scale(alloc: Global, out: &mut Elements, most: u64) -> Result<(), NoMemory>
-    ensures { OnOk result (out.new ≡ out.old
-        ++ (count_mark most 0 ++ count_mark most (most / 2) ++ count_mark most most)) }
+pub fn put_count_scale(alloc: Global, out: &mut Elements, most: u64) -> Result<(), NoMemory>
+    ensures { OnOk result (out.new ≡ out.old ++ count_marks most) }
 {
     put_count(alloc, out, most, 0)?;
     put_count(alloc, out, most, most / 2)?;
@@ -248,17 +245,18 @@ fn put_scales(alloc: Global, out: &mut Elements, many: u64, most: u64) -> Result
     put_event_scale(alloc, out, many)
 }
 
-/// Appends the three curves.
-fn put_curves(
+/// Appends the three curves: that of the packets of some samples, and those of the outputs of others.
+pub fn put_curves(
     alloc: Global,
     out: &mut Elements,
     many: u64,
     most: u64,
+    came: &[Sample],
     samples: &[Sample],
 ) -> Result<(), NoMemory>
-    ensures { OnOk result (out.new ≡ out.old ++ curves many most samples.now) }
+    ensures { OnOk result (out.new ≡ out.old ++ curves many most came.now samples.now) }
 {
-    out.push(curve_of(alloc, Count::Fed, many, most, samples)?)?;
+    out.push(curve_of(alloc, Count::Fed, many, most, came)?)?;
     out.push(curve_of(alloc, Count::Left, many, most, samples)?)?;
     out.push(curve_of(alloc, Count::Held, many, most, samples)?)
 }
@@ -273,31 +271,17 @@ fn put_sampled(
 ) -> Result<(), NoMemory>
     ensures { OnOk result (out.new ≡ out.old ++ chart_of many most samples.now) }
 {
-    put_axis(alloc, out)?;
+    put_axis(alloc, out, b"events")?;
     put_scales(alloc, out, many, most)?;
     put_epochs(alloc, out, many, samples)?;
-    put_curves(alloc, out, many, most, samples)
+    put_curves(alloc, out, many, most, samples, samples)
 }
 
-/// Appends the chart of a long run.
-fn put_chart(alloc: Global, out: &mut Elements, notes: &[Note]) -> Result<(), NoMemory>
-    ensures { OnOk result (out.new ≡ out.old ++ chart_for notes.now) }
+/// Appends the chart of a long run, event by event.
+pub fn put_event_chart(alloc: Global, out: &mut Elements, notes: &[Note]) -> Result<(), NoMemory>
+    ensures { OnOk result (out.new ≡ out.old ++ event_chart notes.now) }
 {
     let many = notes.len() as u64;
     let samples = take_samples(alloc, many / 200 + 1, notes)?;
     put_sampled(alloc, out, many, most_of(notes), samples.as_slice())
-}
-
-/// Appends the overview of a long run of so many threads.
-pub fn put_overview(
-    alloc: Global,
-    out: &mut Elements,
-    threads: u64,
-    notes: &[Note],
-) -> Result<(), NoMemory>
-    ensures { OnOk result (out.new ≡ out.old ++ overview threads notes.now) }
-{
-    put_chart(alloc, out, notes)?;
-    put_keys(alloc, out)?;
-    put_floors(alloc, out, threads, notes)
 }

@@ -11,9 +11,9 @@ use crate::Note;
 use crate::events::put_events;
 use crate::ground::{put_bands, put_logger_lanes, put_thread_lanes, width, words};
 use crate::legend::put_legend;
-use crate::overview::put_overview;
 use crate::places::{advance, left, top};
 use crate::scales::overview_high;
+use crate::time_chart::put_overview;
 use plain_text::{Bytes, NoMemory};
 use std::alloc::Global;
 use svg_text::{Class, Drawing, Element, Elements, Point, Shape, put_drawing};
@@ -128,36 +128,39 @@ fn put_drawn(
     out: &mut Elements,
     many: u64,
     threads: u64,
+    times: &[u64],
     notes: &[Note],
 ) -> Result<(), NoMemory>
     requires columns { many ≡ columns 0 notes.now }
     requires threads { threads < 1000 }
-    ensures { OnOk result (out.new ≡ out.old ++ drawn_elements threads notes.now) }
+    ensures { OnOk result (out.new ≡ out.old ++ drawn_elements threads times.now notes.now) }
 {
     if is_small(many, notes) {
         return put_run(alloc, out, many, threads, notes);
     }
-    put_overview(alloc, out, threads, notes)
+    put_overview(alloc, out, threads, times, notes)
 }
 
-/// The picture of a run, as SVG: with this title, and this last line of its report, of so many threads.
+/// The picture of a run, as SVG: with this title, and this last line of its report, of so many threads. The times are
+/// those of the packets of the capture, in microseconds.
 pub fn put_picture(
     alloc: Global,
     title: &[u8],
     last: &[u8],
     threads: u64,
+    times: &[u64],
     notes: &[Note],
 ) -> Result<Bytes, NoMemory>
     requires { threads < 1000 }
     ensures { IfOk result (λ text.
-        text ≡ drawing_text (picture title.now last.now threads notes.now)) }
+        text ≡ drawing_text (picture title.now last.now threads times.now notes.now)) }
 {
     let many = count_columns(notes)?;
     let wide = wide_of(many, notes);
     let high = high_of(many, threads, notes);
     let mut elements = Elements::new(alloc);
     put_frame(alloc, &mut elements, wide, high, title, last)?;
-    put_drawn(alloc, &mut elements, many, threads, notes)?;
+    put_drawn(alloc, &mut elements, many, threads, times, notes)?;
     let drawing = Drawing {
         width: wide,
         height: high,

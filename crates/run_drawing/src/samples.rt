@@ -1,9 +1,9 @@
 use plain_text::Sequence;
 
-/// What the overview of a long run tells of one of its events.
+/// What the overview of a long run tells of one of its events, or of its packets.
 #[derive(Clone, Copy)]
 pub struct Sample {
-    /// The place of the event, from 0.
+    /// The place of the event, from 0; or the time since the first packet, in microseconds.
     pub index: u64,
     /// How many packets came in.
     pub fed: u64,
@@ -23,6 +23,14 @@ pub enum Count {
     Left,
     /// The outputs that wait.
     Held,
+}
+
+/// The unit of the times below an overview.
+#[derive(Clone, Copy)]
+pub enum TimeUnit {
+    Second,
+    Millisecond,
+    Microsecond,
 }
 
 /// What a slice of the events has of the moves of a thread.

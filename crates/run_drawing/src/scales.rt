@@ -2,12 +2,12 @@ ghost use Rattle.std.specs.Prelude.{◌≡◌, ◌≤◌};
 ghost use Rattle.run_drawing.specs.Scales.{across as across_of, floor_of, overview_high as high_of};
 ghost use Rattle.run_drawing.specs.Scales.{tall as tall_of, upwards as upwards_of};
 
-/// Where an event stands among so many, to the right.
+/// Where an event stands among so many, or a time in a span of so much, to the right.
 pub fn across(many: u64, index: u64) -> u32
     ensures place { result ≡ across_of many index }
     ensures right { 120 ≤ result }
 {
-    let place = index.min(1_000_000_000) * 1000 / 1u64.max(many);
+    let place = index.min(10_000_000_000_000_000) * 1000 / 1u64.max(many);
     120 + place.min(1000) as u32
 }
 

@@ -11,6 +11,7 @@ ghost use Rattle.noted_runs.specs.Picturing.{ComesTo, IsHalt, WritesPicture};
 
 use crate::picture::inputs::log_all;
 use crate::picture::running::{Gone, run_events};
+use crate::picture::times::times_of;
 use box_program::{Lent, Program};
 use drill_report::copy_packets;
 use output_files::{OutputError, append, create, report};
@@ -35,11 +36,19 @@ fn bytes_of(title: &Text) -> &[u8]
     title.as_str().as_bytes()
 }
 
-/// The texts of a picture, with this title, of events that were all performed by so many threads.
-fn put_texts(alloc: Global, title: &Text, threads: u32, gone: &Gone) -> Result<Texts, NoMemory>
+/// The texts of a picture, with this title, of events that were all performed by so many threads; with the times of the
+/// packets.
+fn put_texts(
+    alloc: Global,
+    title: &Text,
+    threads: u32,
+    times: &[u64],
+    gone: &Gone,
+) -> Result<Texts, NoMemory>
     requires { threads ≤ 16 }
     ensures picture { IfOk result (λ texts. texts.picture ≡ picture_text title.now
-        (counts_line gone.now.fed gone.now.epoch gone.now.released) threads gone.now.notes) }
+        (counts_line gone.now.fed gone.now.epoch gone.now.released) threads times.now
+        gone.now.notes) }
     ensures report { IfOk result (λ texts.
         texts.report ≡ counts_line gone.now.fed gone.now.epoch gone.now.released) }
 {
@@ -49,6 +58,7 @@ fn put_texts(alloc: Global, title: &Text, threads: u32, gone: &Gone) -> Result<T
         bytes_of(title),
         report.as_slice(),
         threads as u64,
+        times,
         gone.notes.as_slice(),
     )?;
     Ok(Texts { picture, report })
@@ -98,9 +108,10 @@ fn draw_run<P: Program>(
         (ComesTo title.now (setting_of (P.meaning program.now) run) run.events) }
 {
     let threads = run.threads;
+    let times = times_of(alloc, run.unit, run.packets.as_slice())?;
     match perform_run(alloc, run, program) {
         Ok(gone) => {
-            let texts = put_texts(alloc, title, threads, &gone)?;
+            let texts = put_texts(alloc, title, threads, times.as_slice(), &gone)?;
             Ok(Ok(texts))
         }
         Err(stop) => halt(stop),
