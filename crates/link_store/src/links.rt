@@ -163,12 +163,7 @@ fn send_apart(
 }
 
 /// Keeps this frame as the one last sent to the address.
-fn keep(
-    alloc: Global,
-    runs: &mut Vec<Run>,
-    at: Address,
-    frame: KeptFrame,
-) -> Result<(), NoMemory>
+fn keep(alloc: Global, runs: &mut Vec<Run>, at: Address, frame: KeptFrame) -> Result<(), NoMemory>
     ensures ok { OnOk result (Sends (all_of runs.old.items) (all_of runs.new.items) at
         (bytes_of at.epoch frame)) }
     ensures err { OnErr result (all_of runs.new.items ≡ all_of runs.old.items) }
@@ -302,9 +297,9 @@ impl Links {
         forget_past_in_runs(&mut self.runs, &last);
     }
 
-    /// The outputs of this epoch stay where they are, as those of the next one; all other frames are forgotten. It takes
-    /// memory only for outputs that were sent as bytes, and looks at no output twice that stays in later epochs. After
-    /// `NoMemory` the links are of no use any more.
+    /// The outputs of this epoch stay where they are, as those of the next one; all other frames are forgotten. Each
+    /// output is looked at in the first such call alone, and takes memory there if it was sent as bytes. After `NoMemory`
+    /// the links are of no use any more.
     pub fn turn_epoch(&mut self, epoch: u32) -> Result<(), NoMemory>
         requires { epoch < 2 ^ 32 - 1 }
         ensures turns { OnOk result (TurnsEpoch epoch self.old self.new) }

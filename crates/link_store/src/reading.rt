@@ -92,19 +92,23 @@ pub fn sent_in(alloc: Global, bytes: &[u8]) -> Result<(u32, Output), NoMemory>
         → (sent.0 ≡ threads) × (sent.1 ≡ o)) }
 {
     match frame_in(alloc, bytes)? {
-        Some(Frame::Output {
-            epoch: _,
-            threads,
-            output,
-        }) => match output.into_output() {
+        Some(
+            Frame::Output {
+                epoch: _,
+                threads,
+                output,
+            },
+        ) => match output.into_output() {
             Some(output) => Ok((threads, output)),
             None => Err(NoMemory),
         },
-        Some(Frame::Entry {
-            epoch: _,
-            threads: _,
-            entry: _,
-        })
+        Some(
+            Frame::Entry {
+                epoch: _,
+                threads: _,
+                entry: _,
+            },
+        )
         | None => Err(NoMemory),
     }
 }

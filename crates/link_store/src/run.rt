@@ -33,11 +33,7 @@ impl Model for Run {
 }
 
 /// Keeps each of these frames as the output that it tells, of which the first are kept so, this number of them.
-fn tell_from(
-    alloc: Global,
-    from: usize,
-    frames: &mut VecDeque<KeptFrame>,
-) -> Result<(), NoMemory>
+fn tell_from(alloc: Global, from: usize, frames: &mut VecDeque<KeptFrame>) -> Result<(), NoMemory>
     requires { AreTold from frames.old.items }
     ensures as_many { length frames.new.items ≡ length frames.old.items }
     ensures ok { OnOk result ((epoch : ℕ) → TellsEach epoch frames.old.items frames.new.items) }
