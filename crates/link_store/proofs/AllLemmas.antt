@@ -1,7 +1,7 @@
 -- Looking up a frame in several runs.
 use Rattle.std.proofs.Common.{◌≡◌, ℕ, zero, suc, ◌+◌, ◌≤◌, ◌<◌, ◌≢◌, Bool, true, false, cond, List, [], ◌∷◌, ◌++◌}
 use Rattle.std.proofs.Common.{Option, Some, None, Bor, IfNone, option_copied, length, length-set}
-use Rattle.std.proofs.Common.{slice_index_or, slice_set, ⊎_elim, refl, sym, ap, ◌∙◌, subst, arith, add-one}
+use Rattle.std.proofs.Common.{slice_index_or, slice_set, ⊎_elim, refl, sym, ap, ◌∙◌, subst, arith}
 use Rattle.std.specs.BTreeMap.{is_at}
 use Rattle.std.specs.Option.{option_map, is_some}
 use Rattle.link_store.specs.declared.address.Address.{Address}
@@ -12,7 +12,7 @@ use Rattle.plain_text.specs.declared.kind.Kind.TheVariants.{Out}
 use Rattle.link_store.specs.declared.kept.Form.{Form}
 use Rattle.link_store.specs.Kept.{bytes_of}
 use Rattle.link_store.specs.Links.{address, frame_at, Sends, Forgets, GoesOn, TurnsEpoch}
-use Rattle.link_store.specs.Runs.{Run, frames_of, all_of, Takes, IsFirstTaker, NoneTakes, IsEach, ForgetsIn, TurnsIn}
+use Rattle.link_store.specs.Runs.{Run, frames_of, all_of, IsFirstTaker, NoneTakes, IsEach, ForgetsIn, TurnsIn}
 use Rattle.link_store.proofs.RunLemmas.{not_taken}
 
 abbrev or_else : Option (List ℕ) → Option (List ℕ) → Option (List ℕ)

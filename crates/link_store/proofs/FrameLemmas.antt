@@ -16,7 +16,7 @@ use Rattle.wire_frames.specs.Layout.{IsFrame, written}
 use Rattle.wire_frames.specs.Parts.{FitsWord}
 use Rattle.wire_frames.proofs.Ranges.{is_sent, is_done}
 use Rattle.wire_frames.proofs.Whole.{is_written}
-use Rattle.wire_frames.specs.Writing.{CanPutEntry, CanPutOutput}
+use Rattle.wire_frames.specs.Writing.{CanPutEntry}
 use Rattle.link_store.specs.Sending.{Sending, HasEntryFrame, HasOutputFrame, SendsEntry, SendsOutput}
 use Rattle.link_store.specs.Sending.{BeginsEpoch, CountsEntry, TakesOutput, entry_size, entry_address, output_address, lengths_of}
 use Rattle.link_store.specs.Spelled.{IsEntryFrame, IsOutputFrame}

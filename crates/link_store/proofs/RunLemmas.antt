@@ -1,9 +1,9 @@
 -- Looking up a frame in a run.
-use Rattle.std.proofs.Common.{◌≡◌, ℕ, zero, suc, ◌+◌, ◌-◌, ◌≤◌, ◌<◌, ◌≢◌, ◌^◌, ◌↔◌, Bool, true, false, cond, List, []}
+use Rattle.std.proofs.Common.{◌≡◌, ℕ, zero, suc, ◌+◌, ◌-◌, ◌≤◌, ◌<◌, ◌≢◌, ◌↔◌, Bool, true, false, cond, List, []}
 use Rattle.std.proofs.Common.{take, inl, inr, ◌⊎◌}
 use Rattle.std.proofs.lemmas.List.{length-take}
 use Rattle.std.proofs.Common.{◌∷◌, ◌++◌, Option, Some, None, Ordering, Less, Equal, Greater, Bor, IsSome, IfSome, drop}
-use Rattle.std.proofs.Common.{length, slice_index_or, slice_set, min, refl, sym, ap, ◌∙◌, subst, ⊎_elim, arith, add-one}
+use Rattle.std.proofs.Common.{length, slice_index_or, slice_set, min, refl, sym, ap, ◌∙◌, subst, ⊎_elim, arith}
 use Rattle.std.specs.List.{slice_get}
 use Rattle.std.specs.Option.{option_copied, option_map}
 use Rattle.std.proofs.lemmas.Bool.{cases_lt}

@@ -1,6 +1,6 @@
 -- Frames that are kept as outputs, and how they go on in the next epoch.
 use Rattle.std.proofs.Common.{◌≡◌, ◌≢◌, ℕ, zero, suc, ◌+◌, ◌-◌, ◌^◌, ◌<◌, ◌≤◌, List, [], ◌∷◌, ◌++◌, Option, Some, None}
-use Rattle.std.proofs.Common.{length, length-set, length-append, take, drop, min, refl, sym, ap, ◌∙◌, subst, inl, inr, ◌⊎◌}
+use Rattle.std.proofs.Common.{length, length-set, take, drop, min, refl, sym, ap, ◌∙◌, subst, inl, inr, ◌⊎◌}
 use Rattle.std.proofs.Common.{slice_index_or, slice_set, arith}
 use Rattle.std.specs.List.{slice_get}
 use Rattle.std.specs.Option.{option_map}
@@ -9,7 +9,6 @@ use Rattle.std.proofs.lemmas.List.{get_or-set_same, get_or-set_other, get_or_app
 use Rattle.std.proofs.lemmas.Grind.{get_or_after_one}
 use Rattle.std.proofs.lemmas.Option.{slice_get_past, slice_get-get_or}
 use Rattle.std.proofs.Math.Nat.{min-le_left, min-le_right}
-use Rattle.wire_frames.specs.declared.frame.Frame.TheVariants as frame
 use Rattle.plain_text.specs.declared.kind.Kind.TheVariants.{Out}
 use Rattle.link_store.specs.declared.address.Address.{Address}
 use Rattle.link_store.specs.declared.kept.Form.{Form}

@@ -1,4 +1,3 @@
-use Rattle.std.proofs.Common.{◌≡◌}
 use Rattle.link_store.proofs.AllLemmas.{turns_all}
 use Rattle.link_store.proofs.EntryLemmas.{no_entry_then}
 use Rattle.link_store.proofs.links.Links.turn_epoch.Goals as goal

@@ -1,8 +1,5 @@
-use Rattle.std.proofs.Common.{◌≡◌, ℕ, ◌+◌, ◌-◌, ◌≤◌, ◌<◌, ◌^◌, ◌∙◌, length, drop, length-drop, arith}
+use Rattle.std.proofs.Common.{◌≡◌, ◌+◌, ◌<◌, ◌∙◌, length, length-drop, arith}
 use Rattle.std.proofs.lemmas.Bool.Decides.{nat_tests}
-use Rattle.link_store.specs.declared.address.Address.{Address}
-use Rattle.link_store.specs.Beside.{IsBeside}
-use Rattle.link_store.specs.Links.{IsUpTo}
 use Rattle.link_store.proofs.RunLemmas.{none_beside, none_up_to, drops_first, below_min, is_min}
 use Rattle.link_store.proofs.ToldLemmas.{told_drop}
 use Rattle.link_store.proofs.run.Run.forget.Goals as goal

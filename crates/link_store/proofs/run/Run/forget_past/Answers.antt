@@ -1,4 +1,4 @@
-use Rattle.std.proofs.Common.{◌≡◌, ℕ, ◌+◌, ◌-◌, ◌≤◌, ◌<◌, ◌^◌, min, length, take, arith}
+use Rattle.std.proofs.Common.{◌+◌, arith}
 use Rattle.std.proofs.Math.Nat.{min-le_left}
 use Rattle.link_store.proofs.RunLemmas.{none_past, cuts_past, at_least_min, above_then}
 use Rattle.link_store.proofs.run.Run.forget_past.Goals as goal

@@ -1,4 +1,4 @@
-use Rattle.std.proofs.Common.{◌≡◌, ℕ, Option, sym, ap, ◌∙◌, option_copied}
+use Rattle.std.proofs.Common.{Option, sym, ap, ◌∙◌, option_copied}
 use Rattle.std.specs.List.{slice_get}
 use Rattle.std.specs.Option.{option_map}
 use Rattle.link_store.specs.declared.address.Address.{Address}

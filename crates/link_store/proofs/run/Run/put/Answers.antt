@@ -1,4 +1,4 @@
-use Rattle.std.proofs.Common.{sym, subst, arith, List, ℕ, length, slice_set, ◌-◌, ◌<◌, ◌≤◌}
+use Rattle.std.proofs.Common.{sym, subst, arith, length, slice_set, ◌-◌, ◌<◌, ◌≤◌}
 use Rattle.link_store.specs.declared.kept.Form.{Form}
 use Rattle.link_store.specs.Kept.{bytes_of}
 use Rattle.link_store.specs.Links.{Sends}

@@ -1,4 +1,4 @@
-use Rattle.std.proofs.Common.{◌≡◌, ℕ, arith}
+use Rattle.std.proofs.Common.{arith}
 use Rattle.link_store.proofs.ToldLemmas.{turns_away, turns_run}
 use Rattle.link_store.proofs.run.Run.turn.Goals as goal
 
