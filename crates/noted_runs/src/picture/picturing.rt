@@ -6,7 +6,7 @@ ghost use Rattle.run_writes.specs.Run.{CanRun, counts_line, setting_of};
 ghost use Rattle.noted_runs.specs.PictureGoing.{HasGone};
 ghost use Rattle.noted_runs.specs.Noting.{IsHalted};
 ghost use Rattle.noted_runs.specs.Picture.{HasBegunPicture, HasPictured, HasStopped};
-ghost use Rattle.noted_runs.specs.Picture.{picture_text, picture_writes};
+ghost use Rattle.noted_runs.specs.Picture.{picture_text, picture_writes, times_in};
 ghost use Rattle.noted_runs.specs.Picturing.{ComesTo, IsHalt, WritesPicture};
 
 use crate::picture::inputs::log_all;
@@ -96,6 +96,30 @@ fn perform_run<P: Program>(alloc: Global, run: ScriptRun, program: &P) -> Result
     run_events(alloc, &lent, &inputs, system, run.events.as_slice())
 }
 
+/// Performs the events of a run and draws its picture, with the times of its packets; or tells at which limit an event
+/// stopped.
+fn draw_timed<P: Program>(
+    alloc: Global,
+    title: &Text,
+    times: &[u64],
+    run: ScriptRun,
+    program: &P,
+) -> Result<Result<Texts, Limit>, NoMemory>
+    requires inputs { CanRun run }
+    requires times { times.now ≡ times_in run.unit run.packets }
+    ensures { IfOk result
+        (ComesTo title.now (setting_of (P.meaning program.now) run) run.events) }
+{
+    let threads = run.threads;
+    match perform_run(alloc, run, program) {
+        Ok(gone) => {
+            let texts = put_texts(alloc, title, threads, times, &gone)?;
+            Ok(Ok(texts))
+        }
+        Err(stop) => halt(stop),
+    }
+}
+
 /// Performs the events of a run and draws its picture; or tells at which limit an event stopped.
 fn draw_run<P: Program>(
     alloc: Global,
@@ -107,15 +131,8 @@ fn draw_run<P: Program>(
     ensures { IfOk result
         (ComesTo title.now (setting_of (P.meaning program.now) run) run.events) }
 {
-    let threads = run.threads;
     let times = times_of(alloc, run.unit, run.packets.as_slice())?;
-    match perform_run(alloc, run, program) {
-        Ok(gone) => {
-            let texts = put_texts(alloc, title, threads, times.as_slice(), &gone)?;
-            Ok(Ok(texts))
-        }
-        Err(stop) => halt(stop),
-    }
+    draw_timed(alloc, title, times.as_slice(), run, program)
 }
 
 /// Writes the picture, and then the report.
