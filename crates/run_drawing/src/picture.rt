@@ -141,6 +141,30 @@ fn put_drawn(
     put_overview(alloc, out, threads, times, notes)
 }
 
+/// All that is drawn of a run, which has so many columns.
+fn elements_of(
+    alloc: Global,
+    title: &[u8],
+    last: &[u8],
+    many: u64,
+    threads: u64,
+    times: &[u64],
+    notes: &[Note],
+) -> Result<Elements, NoMemory>
+    requires columns { many ≡ columns 0 notes.now }
+    requires threads { threads < 1000 }
+    ensures { IfOk result (λ elements. elements
+        ≡ frame_elements (wide_of_all notes.now) (high_of_all threads notes.now) title.now last.now
+        ++ drawn_elements threads times.now notes.now) }
+{
+    let wide = wide_of(many, notes);
+    let high = high_of(many, threads, notes);
+    let mut elements = Elements::new(alloc);
+    put_frame(alloc, &mut elements, wide, high, title, last)?;
+    put_drawn(alloc, &mut elements, many, threads, times, notes)?;
+    Ok(elements)
+}
+
 /// The picture of a run, as SVG: with this title, and this last line of its report, of so many threads. The times are
 /// those of the packets of the capture, in microseconds.
 pub fn put_picture(
@@ -156,16 +180,11 @@ pub fn put_picture(
         text ≡ drawing_text (picture title.now last.now threads times.now notes.now)) }
 {
     let many = count_columns(notes)?;
-    let wide = wide_of(many, notes);
-    let high = high_of(many, threads, notes);
-    let mut elements = Elements::new(alloc);
-    put_frame(alloc, &mut elements, wide, high, title, last)?;
-    put_drawn(alloc, &mut elements, many, threads, times, notes)?;
     let drawing = Drawing {
-        width: wide,
-        height: high,
+        width: wide_of(many, notes),
+        height: high_of(many, threads, notes),
         title: Bytes::of(alloc, title)?,
-        elements,
+        elements: elements_of(alloc, title, last, many, threads, times, notes)?,
     };
     put_drawing(alloc, &drawing)
 }
