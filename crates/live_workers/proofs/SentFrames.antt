@@ -174,7 +174,7 @@ module _ {V : Type 0} (s : Setting V) (w : World V) where
 
   pub noted_steps : (noted : List Noted) (there : World V) → PerformsNoted s w noted there → HaveMade w noted there
   noted_steps [] there NoneNoted = record { steps = []; past = refl; frames = λ own. refl }
-  noted_steps _ new (OneMore {noted} {mid} {new} n before on) =
+  noted_steps _ new (OneMore {noted} {mid} n before on) =
       by_step noted n mid new (noted_steps noted mid before) on.0.0
 
 same_left : {A : Type 0} (xs ys zs : List A) → xs ++ zs ≡ ys ++ zs → xs ≡ ys
