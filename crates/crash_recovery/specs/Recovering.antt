@@ -26,8 +26,8 @@ WakesUp s w next = Wakes w next
 abbrev pub HasMade : {V : Type 0} → Mastered V → ℕ → ℕ → ℕ → Type 0
 HasMade master count t n = t < count → HoldsAt (λ part. n ≤ part.counts.outputs) master.threads t
 
--- The next epoch begins. Of each of the first threads, only what this master made counts as sent; of the others all that
--- was sent. The outputs on the links that count stay there, as frames of this epoch, and nothing else does.
+-- The next epoch begins. Of each of the first threads, only what this master made counts as sent; of the others all
+-- that was sent. The outputs on the links that count stay there, as frames of this epoch, and nothing else does.
 pub record TurnsLinks {V : Type 0} (master : Mastered V) (count : ℕ) (old new : Sending) : Type 0 where
   pub stay : (o : Output) → HasOutputFrame old o → HasMade master count o.thread o.number → HasOutputFrame new o
   pub only : (a : Address) → (frame_at new.frames a ≡ None)

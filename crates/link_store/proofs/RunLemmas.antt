@@ -247,7 +247,8 @@ pub drops_head : (frames : List Form) (first : Address) (next : ℕ)
     ≡ frame_at (in_turn first frames) a
 drops_head [] first next follows a far = refl
 drops_head (f ∷ frames) first next follows a far =
-    rest frames (λ more. follows (omega arith)) ∙ sym (past_head first (bytes_of first.epoch f) (in_turn (later first 1) frames) a far)
+    rest frames (λ more. follows (omega arith))
+    ∙ sym (past_head first (bytes_of first.epoch f) (in_turn (later first 1) frames) a far)
   where
     rest : (frames : List Form) → (0 < length frames → next ≡ first.number + 1)
         → frame_at (in_turn (address first.epoch first.kind first.thread next) frames) a

@@ -131,8 +131,8 @@ pub record BeginsEpoch (old new : Sending) : Type 0 where
   pub epoch : new.epoch ≡ old.epoch + 1
   pub threads : new.threads ≡ old.threads
 
--- Of this thread only the first ones count as sent: this number of entries, and this number of outputs. The frames of its
--- outputs past them are forgotten.
+-- Of this thread only the first ones count as sent: this number of entries, and this number of outputs. The frames of
+-- its outputs past them are forgotten.
 pub record TurnsBack (old new : Sending) (t logged emitted : ℕ) : Type 0 where
   pub forgets : Forgets (IsPast (output_address old t emitted)) old.frames new.frames
   pub entries : new.entries ≡ slice_set old.entries t (take logged (lengths_of old.entries t))

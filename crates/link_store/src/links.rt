@@ -298,8 +298,8 @@ impl Links {
     }
 
     /// The outputs of this epoch stay where they are, as those of the next one; all other frames are forgotten. Each
-    /// output is looked at in the first such call alone, and takes memory there if it was sent as bytes. After `NoMemory`
-    /// the links are of no use any more.
+    /// output is looked at in the first such call alone, and takes memory there if it was sent as bytes. After
+    /// `NoMemory` the links are of no use any more.
     pub fn turn_epoch(&mut self, epoch: u32) -> Result<(), NoMemory>
         requires { epoch < 2 ^ 32 - 1 }
         ensures turns { OnOk result (TurnsEpoch epoch self.old self.new) }

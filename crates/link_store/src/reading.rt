@@ -83,8 +83,8 @@ pub fn output_in(alloc: Global, bytes: &[u8]) -> Result<Option<Output>, NoMemory
     }
 }
 
-/// The output whose frame these bytes are, and its sender's number of threads. It answers that memory ran out where they
-/// are no such frame, and as `entry_of` does.
+/// The output whose frame these bytes are, and its sender's number of threads. It answers that memory ran out where
+/// they are no such frame, and as `entry_of` does.
 pub fn sent_in(alloc: Global, bytes: &[u8]) -> Result<(u32, Output), NoMemory>
     ensures frame { IfOk result (λ sent. HasFrame sent.0 sent.1) }
     ensures same { IfOk result (λ sent. (epoch threads : ℕ) (o : OutputValue)

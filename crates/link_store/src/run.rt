@@ -159,7 +159,7 @@ impl Run {
         }
     }
 
-    /// The outputs of this epoch are those of the next one. Frames of another epoch are forgotten, and those of entries.
+    /// The outputs of this epoch are those of the next one. Frames of entries are forgotten, and those of other epochs.
     pub fn turn(&mut self, alloc: Global, epoch: u32) -> Result<(), NoMemory>
         requires { epoch < 2 ^ 32 - 1 }
         ensures { OnOk result (TurnsIn epoch self.old self.new) }

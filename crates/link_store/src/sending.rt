@@ -21,8 +21,8 @@ use wire_frames::{Output, StampedEntry, What, entry_length, output_length, put_e
 
 /// What a master sends on its links: each entry and each output as a frame, and how long each frame was.
 ///
-/// A frame is there until it is forgotten; its length stays. A new master has a new epoch: what the one before sent and it
-/// did not make is forgotten, with its length; the other outputs stay on the links, as frames of the new epoch.
+/// A frame is there until it is forgotten; its length stays. A new master has a new epoch: what the one before sent and
+/// it did not make is forgotten, with its length; the other outputs stay on the links, as frames of the new epoch.
 #[derive(Drop)]
 pub struct SentFrames {
     alloc: Global,
@@ -285,9 +285,9 @@ impl SentFrames {
         self.links.forget(self.epoch, Kind::Out, thread, up_to);
     }
 
-    /// Ends the epoch, and begins the next one: the outputs on the links stay there, as frames of this epoch, and those of
-    /// entries are forgotten. Outputs that were sent as frames are read, once, and take memory then. After `NoMemory` the
-    /// links are of no use any more.
+    /// Ends the epoch, and begins the next one: the outputs on the links stay there, as frames of the next one, and the
+    /// frames of entries are forgotten. An output that was sent as its frame is read then, once, and takes memory. After
+    /// `NoMemory` the links are of no use any more.
     pub fn begin_epoch(&mut self) -> Result<(), NoMemory>
         requires { self.old.epoch < 2 ^ 32 - 1 }
         ensures ok { OnOk result (BeginsEpoch self.old self.new) }

@@ -1,4 +1,5 @@
 ghost use Rattle.std.specs.Prelude.{◌≡◌, IfOk};
+ghost use Rattle.std.specs.String.{string_bytes};
 
 use crate::NoMemory;
 use std::alloc::Global;
@@ -27,6 +28,13 @@ impl Text {
         Ok(Text {
             string: String::from_str(alloc, text)?,
         })
+    }
+
+    /// The text of this string. It takes no memory.
+    pub fn from_string(string: String) -> Self
+        ensures { result ≡ string_bytes string }
+    {
+        Text { string }
     }
 
     /// The text, without its allocator.

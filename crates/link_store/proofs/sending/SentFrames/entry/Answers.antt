@@ -10,5 +10,7 @@ returns-in-Some-clause-there c =
     IfOk-weaker c.entry.result _ _
     (λ found each e has a b.
     let now = subst (λ (q : Sending). HasEntryFrame q e) (sym c.self.view_is) has in
-    let is = entry_bytes _ e c.args.thread c.args.number (bytes_of c.self.inside.epoch c.in-Some.frame.now) now a b c.in-Some.ensures.frame in
+    let is =
+    entry_bytes _ e c.args.thread c.args.number (bytes_of c.self.inside.epoch c.in-Some.frame.now) now a b
+    c.in-Some.ensures.frame in
     each c.self.inside.epoch c.self.inside.threads e is) c.entry.ensures

@@ -10,5 +10,7 @@ returns-in-Some-clause-there c =
     IfOk-weaker c.output.result _ _
     (λ found each o has a b.
     let now = subst (λ (q : Sending). HasOutputFrame q o) (sym c.self.view_is) has in
-    let is = output_bytes _ o c.args.thread c.args.number (bytes_of c.self.inside.epoch c.in-Some.frame.now) now a b c.in-Some.ensures.frame in
+    let is =
+    output_bytes _ o c.args.thread c.args.number (bytes_of c.self.inside.epoch c.in-Some.frame.now) now a b
+    c.in-Some.ensures.frame in
     each c.self.inside.epoch c.self.inside.threads o is) c.output.ensures

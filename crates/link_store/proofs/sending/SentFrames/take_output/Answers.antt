@@ -11,7 +11,8 @@ returns-in-Some-clause-there c =
     (λ found each o has a b.
     let now = subst (λ (q : Sending). HasOutputFrame q o) (sym c.self.view_is) has in
     let is =
-    output_bytes _ o c.args.thread c.args.number (bytes_of c.self.inside.epoch c.in-Some.frame) now a b (sym c.in-Some.ensures.taken) in
+    output_bytes _ o c.args.thread c.args.number (bytes_of c.self.inside.epoch c.in-Some.frame) now a b
+    (sym c.in-Some.ensures.taken) in
     each c.self.inside.epoch c.self.inside.threads o is) c.into_output.ensures
 
 pub returns-in-None-clause-there : goal.returns-in-None-clause-there

@@ -10,5 +10,7 @@ returns c =
     IfSome_then c.told.result c.told.ensures
     (λ x each o has a b.
     let now = subst (λ (q : Sending). HasOutputFrame q o) (sym c.self.view_is) has in
-    let is = output_bytes _ o c.args.thread c.args.number (bytes_of c.self.inside.epoch c.in_ok-frame.frame.now) now a b c.in_ok-frame.ensures.frame in
+    let is =
+    output_bytes _ o c.args.thread c.args.number (bytes_of c.self.inside.epoch c.in_ok-frame.frame.now) now a b
+    c.in_ok-frame.ensures.frame in
     each c.self.inside.epoch c.self.inside.threads o is)
