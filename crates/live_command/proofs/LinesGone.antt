@@ -131,6 +131,9 @@ module _ {P V : Type 0} (m : Meaning V) (s : Setting V) (names : LiveOutputs) (m
   line_single r line.Recover ev y is same given goes =
       line_one r line.Recover event.Recover y (λ next end does kept. ((refl, does), kept)) (λ first begins. begins)
       same given (event_there r event.Recover ev y (let e : event.Recover ≡ ev = cc in e) goes)
+  line_single r (line.Show v) ev y is same given goes =
+      line_one r (line.Show v) (event.Show v) y (λ next end does kept. ((refl, does), kept)) (λ first begins. begins)
+      same given (event_there r (event.Show v) ev y (let e : event.Show v ≡ ev = cc in e) goes)
   line_single r (line.Limit t n) ev y is same given goes = absurd (cc)
   line_single r (line.Take t n) ev y is same given goes = absurd (cc)
   line_single r (line.Lose k t n) ev y is same given goes = absurd (cc)

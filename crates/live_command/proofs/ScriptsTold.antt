@@ -28,6 +28,7 @@ told_part s may w orders line.Snap events new before after h = h.0
 told_part s may w orders line.Store events new before after h = h.0
 told_part s may w orders line.Crash events new before after h = h.0
 told_part s may w orders line.Recover events new before after h = h.0
+told_part s may w orders (line.Show v) events new before after h = h.0
 told_part s may w orders line.Settle events new before after h = h.0
 
 pub live_script : {V : Type 0} (s : Setting V) (may : ℕ → Type 0) (w new : World V) (orders : Orders)

@@ -94,6 +94,7 @@ event_of_line line.Snap = Some event.Snap
 event_of_line line.Store = Some event.Store
 event_of_line line.Crash = Some event.Crash
 event_of_line line.Recover = Some event.Recover
+event_of_line (line.Show v) = Some (event.Show v)
 event_of_line line.Settle = None
 
 -- A line of the plan did.

@@ -53,6 +53,8 @@ IsToldPart s may w orders line.Crash events new before after =
     IsPart s w orders line.Crash events new × (after ≡ before)
 IsToldPart s may w orders line.Recover events new before after =
     IsPart s w orders line.Recover events new × (after ≡ before)
+IsToldPart s may w orders (line.Show v) events new before after =
+    IsPart s w orders (line.Show v) events new × (after ≡ before)
 IsToldPart s may w orders line.Settle events new before after =
     (settle : OnSettle s w events new) × AreTold s may settle.fed settle.runs.steps before after
 

@@ -256,6 +256,7 @@ fn event_of(line: &PlanLine) -> Option<Event>
         PlanLine::Store => Some(Event::Store),
         PlanLine::Crash => Some(Event::Crash),
         PlanLine::Recover => Some(Event::Recover),
+        PlanLine::Show(var) => Some(Event::Show(var)),
         _ => None,
     }
 }

@@ -57,6 +57,7 @@ part_does s w orders line.Snap events new h = as_said s w new events (event.Snap
 part_does s w orders line.Store events new h = as_said s w new events (event.Store ∷ []) h.0 h.1
 part_does s w orders line.Crash events new h = as_said s w new events (event.Crash ∷ []) h.0 h.1
 part_does s w orders line.Recover events new h = as_said s w new events (event.Recover ∷ []) h.0 h.1
+part_does s w orders (line.Show v) events new h = as_said s w new events (event.Show v ∷ []) h.0 h.1
 part_does s w orders line.Settle events new h =
     as_said s w new events
     (feeding s w h.wake ++ (h.round ++ arrival_events (all_messages s h.ran))) h.events_are

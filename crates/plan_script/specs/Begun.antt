@@ -69,6 +69,7 @@ BeginsPart s w orders line.Snap events = AreFirstOf (event.Snap ∷ []) events
 BeginsPart s w orders line.Store events = AreFirstOf (event.Store ∷ []) events
 BeginsPart s w orders line.Crash events = AreFirstOf (event.Crash ∷ []) events
 BeginsPart s w orders line.Recover events = AreFirstOf (event.Recover ∷ []) events
+BeginsPart s w orders (line.Show v) events = AreFirstOf (event.Show v ∷ []) events
 BeginsPart s w orders line.Settle events = BeginsSettle s w events
 
 -- The first events of a script of these lines: none, or those of the first line and maybe of more.

@@ -28,6 +28,7 @@ orders_after line.Snap o = o
 orders_after line.Store o = o
 orders_after line.Crash o = o
 orders_after line.Recover o = o
+orders_after (line.Show v) o = o
 orders_after line.Settle o = no_orders
 
 -- the first ones, as many as an order says

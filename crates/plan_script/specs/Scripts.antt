@@ -50,6 +50,7 @@ IsPart s w orders line.Snap events new = (events ≡ event.Snap ∷ []) × Does 
 IsPart s w orders line.Store events new = (events ≡ event.Store ∷ []) × Does s w (event.Store ∷ []) new
 IsPart s w orders line.Crash events new = (events ≡ event.Crash ∷ []) × Does s w (event.Crash ∷ []) new
 IsPart s w orders line.Recover events new = (events ≡ event.Recover ∷ []) × Does s w (event.Recover ∷ []) new
+IsPart s w orders (line.Show v) events new = (events ≡ event.Show v ∷ []) × Does s w (event.Show v ∷ []) new
 IsPart s w orders line.Settle events new = OnSettle s w events new
 
 -- A script of these lines: the parts of them, one after another.

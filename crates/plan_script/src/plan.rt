@@ -32,6 +32,8 @@ pub enum PlanLine {
     Crash,
     /// A new master starts.
     Recover,
+    /// The value of this variable is shown.
+    Show(u64),
     /// All that is left comes in, a round without orders is run, and all that was made arrives.
     Settle,
 }

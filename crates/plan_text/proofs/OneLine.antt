@@ -13,7 +13,7 @@ use Rattle.plan_script.specs.declared.plan.PlanLine.{PlanLine}
 use Rattle.plan_script.specs.declared.plan.PlanLine.TheVariants as line
 use Rattle.plan_text.specs.declared.form.Form.{Form}
 use Rattle.plan_text.specs.declared.form.Form.TheVariants.{Feed, Limit, Take, Lose, Round, Snap, Store, Crash, Recover}
-use Rattle.plan_text.specs.declared.form.Form.TheVariants.{Settle}
+use Rattle.plan_text.specs.declared.form.Form.TheVariants.{Settle, Show}
 use Rattle.plan_text.specs.Table.{forms, parts_of, word_of}
 use Rattle.plan_text.specs.Values.{form_of, line_from, values_of}
 use Rattle.plan_text.specs.Plans.{plan_form, plan_table}
@@ -28,6 +28,7 @@ few Snap = omega arith
 few Store = omega arith
 few Crash = omega arith
 few Recover = omega arith
+few Show = omega arith
 few Settle = omega arith
 
 -- The values that make a line
@@ -62,6 +63,9 @@ makes Crash [] f = (refl, refl)
 makes Crash (a ∷ values) f = absurd f
 makes Recover [] f = (refl, refl)
 makes Recover (a ∷ values) f = absurd f
+makes Show [] f = absurd f
+makes Show (a ∷ []) f = (refl, refl)
+makes Show (a ∷ b ∷ values) f = absurd f.1
 makes Settle [] f = (refl, refl)
 makes Settle (a ∷ values) f = absurd f
 
@@ -77,6 +81,7 @@ front_alone Snap a b c d = refl
 front_alone Store a b c d = refl
 front_alone Crash a b c d = refl
 front_alone Recover a b c d = refl
+front_alone Show a b c d = refl
 front_alone Settle a b c d = refl
 
 -- Forms by their rows, and lines by their forms and values
@@ -95,6 +100,7 @@ row_back Snap = refl
 row_back Store = refl
 row_back Crash = refl
 row_back Recover = refl
+row_back Show = refl
 row_back Settle = refl
 
 rows_apart : (a b : Form) → row_of plan_table a ≡ row_of plan_table b → a ≡ b
@@ -110,6 +116,7 @@ line_back line.Snap = refl
 line_back line.Store = refl
 line_back line.Crash = refl
 line_back line.Recover = refl
+line_back (line.Show v) = refl
 line_back line.Settle = refl
 
 -- The laws

@@ -12,7 +12,7 @@ use Rattle.plan_script.specs.declared.plan.PlanLine.{PlanLine}
 use Rattle.plan_script.specs.declared.plan.PlanLine.TheVariants as line
 use Rattle.plan_text.specs.declared.form.Form.{Form}
 use Rattle.plan_text.specs.declared.form.Form.TheVariants.{Feed, Limit, Take, Lose, Round, Snap, Store, Crash, Recover}
-use Rattle.plan_text.specs.declared.form.Form.TheVariants.{Settle}
+use Rattle.plan_text.specs.declared.form.Form.TheVariants.{Settle, Show}
 use Rattle.plan_text.specs.Table.{parts_of, word_of}
 use Rattle.plan_text.specs.Values.{form_of, values_of}
 use Rattle.plan_text.specs.Plans.{IsPlan, FitsWords, FitWords, plan_form, plan_table, plan_text, plan_words}
@@ -30,6 +30,7 @@ line_spelled line.Snap f = f
 line_spelled line.Store f = f
 line_spelled line.Crash f = f
 line_spelled line.Recover f = f
+line_spelled (line.Show v) f = f
 line_spelled line.Settle f = f
 
 -- The first words of the forms
@@ -44,6 +45,7 @@ form_word Snap = (refl, above_test 32 (codes "snap") refl)
 form_word Store = (refl, above_test 32 (codes "store") refl)
 form_word Crash = (refl, above_test 32 (codes "crash") refl)
 form_word Recover = (refl, above_test 32 (codes "recover") refl)
+form_word Show = (refl, above_test 32 (codes "show") refl)
 form_word Settle = (refl, above_test 32 (codes "settle") refl)
 
 form_named_back : (form : Form)
@@ -57,6 +59,7 @@ form_named_back Snap = refl
 form_named_back Store = refl
 form_named_back Crash = refl
 form_named_back Recover = refl
+form_named_back Show = refl
 form_named_back Settle = refl
 
 form_counts : (form : Form) (words : List (List ℕ)) → words_count (word_of form ∷ words) ≡ true
@@ -69,6 +72,7 @@ form_counts Snap words = refl
 form_counts Store words = refl
 form_counts Crash words = refl
 form_counts Recover words = refl
+form_counts Show words = refl
 form_counts Settle words = refl
 
 -- The words of a line are what is written
@@ -84,6 +88,7 @@ written_words line.Snap = refl
 written_words line.Store = refl
 written_words line.Crash = refl
 written_words line.Recover = refl
+written_words (line.Show v) = refl
 written_words line.Settle = refl
 
 lines_are_written : IsWritten plan_table plan_words

@@ -43,6 +43,7 @@ plan_words line.Snap = codes "snap"
 plan_words line.Store = codes "store"
 plan_words line.Crash = codes "crash"
 plan_words line.Recover = codes "recover"
+plan_words (line.Show v) = one (codes "show ") v
 plan_words line.Settle = codes "settle"
 
 -- Of a text

@@ -4,7 +4,7 @@ use Rattle.line_tables.specs.declared.part.Part.{Part}
 use Rattle.line_tables.specs.declared.part.Part.TheVariants.{Number, Kind}
 use Rattle.plan_text.specs.declared.form.Form.{Form}
 use Rattle.plan_text.specs.declared.form.Form.TheVariants.{Feed, Limit, Take, Lose, Round, Snap, Store, Crash, Recover}
-use Rattle.plan_text.specs.declared.form.Form.TheVariants.{Settle}
+use Rattle.plan_text.specs.declared.form.Form.TheVariants.{Settle, Show}
 
 abbrev pub word_of : Form → List ℕ
 word_of Feed = codes "feed"
@@ -16,6 +16,7 @@ word_of Snap = codes "snap"
 word_of Store = codes "store"
 word_of Crash = codes "crash"
 word_of Recover = codes "recover"
+word_of Show = codes "show"
 word_of Settle = codes "settle"
 
 abbrev pub parts_of : Form → List Part
@@ -28,7 +29,8 @@ parts_of Snap = []
 parts_of Store = []
 parts_of Crash = []
 parts_of Recover = []
+parts_of Show = Number ∷ []
 parts_of Settle = []
 
 abbrev pub forms : List Form
-forms = Feed ∷ Limit ∷ Take ∷ Lose ∷ Round ∷ Snap ∷ Store ∷ Crash ∷ Recover ∷ Settle ∷ []
+forms = Feed ∷ Limit ∷ Take ∷ Lose ∷ Round ∷ Snap ∷ Store ∷ Crash ∷ Recover ∷ Show ∷ Settle ∷ []

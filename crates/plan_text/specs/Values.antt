@@ -18,6 +18,7 @@ line_from form.Snap values = line.Snap
 line_from form.Store values = line.Store
 line_from form.Crash values = line.Crash
 line_from form.Recover values = line.Recover
+line_from form.Show values = line.Show (slice_index values 0)
 line_from form.Settle values = line.Settle
 
 -- the form of the line that says this
@@ -31,6 +32,7 @@ form_of line.Snap = form.Snap
 form_of line.Store = form.Store
 form_of line.Crash = form.Crash
 form_of line.Recover = form.Recover
+form_of (line.Show v) = form.Show
 form_of line.Settle = form.Settle
 
 -- the values at the places of that line
@@ -44,4 +46,5 @@ values_of line.Snap = []
 values_of line.Store = []
 values_of line.Crash = []
 values_of line.Recover = []
+values_of (line.Show v) = v ∷ []
 values_of line.Settle = []

@@ -17,6 +17,7 @@ pub enum Form {
     Store,
     Crash,
     Recover,
+    Show,
     Settle,
 }
 
@@ -35,6 +36,7 @@ impl Form {
             Form::Store => b"store",
             Form::Crash => b"crash",
             Form::Recover => b"recover",
+            Form::Show => b"show",
             Form::Settle => b"settle",
         }
     }
@@ -44,7 +46,7 @@ impl Form {
         ensures { result.now ≡ parts_of self }
     {
         match self {
-            Form::Feed => &[Part::Number],
+            Form::Feed | Form::Show => &[Part::Number],
             Form::Limit | Form::Take => &[Part::Number, Part::Number],
             Form::Lose => &[Part::Kind, Part::Number, Part::Number],
             Form::Round | Form::Snap | Form::Store | Form::Crash | Form::Recover | Form::Settle =>
@@ -77,6 +79,7 @@ impl Form {
             Form::Store => PlanLine::Store,
             Form::Crash => PlanLine::Crash,
             Form::Recover => PlanLine::Recover,
+            Form::Show => PlanLine::Show(a),
             Form::Settle => PlanLine::Settle,
         }
     }

@@ -42,6 +42,7 @@ fn write_line(text: &mut String, line: PlanLine) -> Result<(), NoMemory>
         PlanLine::Store => put_word(text, "store"),
         PlanLine::Crash => put_word(text, "crash"),
         PlanLine::Recover => put_word(text, "recover"),
+        PlanLine::Show(var) => put_one(text, "show ", var),
         PlanLine::Settle => put_word(text, "settle"),
     }
 }

@@ -25,7 +25,8 @@ fn parts_of(line: PlanLine) -> (u8, u64, u64) {
         PlanLine::Store => (7, 0, 0),
         PlanLine::Crash => (8, 0, 0),
         PlanLine::Recover => (9, 0, 0),
-        PlanLine::Settle => (10, 0, 0),
+        PlanLine::Show(var) => (10, var, 0),
+        PlanLine::Settle => (11, 0, 0),
     }
 }
 
@@ -54,7 +55,7 @@ fn is_written_as(alloc: Global, text: &str, wanted: &str) -> Result<bool, NoMemo
 }
 
 /// Texts, and the line for which each stands.
-const LINES: [(&str, PlanLine); 14] = [
+const LINES: [(&str, PlanLine); 15] = [
     ("feed 0", PlanLine::Feed(0)),
     ("feed 18446744073709551615", PlanLine::Feed(u64::MAX)),
     (
@@ -107,6 +108,7 @@ const LINES: [(&str, PlanLine); 14] = [
     ("store", PlanLine::Store),
     ("crash", PlanLine::Crash),
     ("recover", PlanLine::Recover),
+    ("show 18446744073709551615", PlanLine::Show(u64::MAX)),
     ("settle", PlanLine::Settle),
 ];
 
