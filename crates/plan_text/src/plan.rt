@@ -29,7 +29,7 @@ pub fn read_plan(alloc: Global, text: &[u8]) -> Result<Plan, ReadError>
 pub struct Plans;
 
 /// The forms of lines, whether they have a third word or not.
-static FORMS: [Form; 10] = [
+static FORMS: [Form; 11] = [
     Form::Feed,
     Form::Limit,
     Form::Take,
@@ -39,6 +39,7 @@ static FORMS: [Form; 10] = [
     Form::Store,
     Form::Crash,
     Form::Recover,
+    Form::Show,
     Form::Settle,
 ];
 
