@@ -1,3 +1,4 @@
+mod advice;
 mod boxes;
 mod calls;
 mod captures;
@@ -9,19 +10,23 @@ mod lines;
 mod nearest;
 mod refuted;
 mod shown;
+mod unread;
+mod word_parts;
 mod written;
 
+use self::advice::{Advice, tell};
+use self::files::read_again;
 use self::forms::Grammar;
 use self::shown::Shown;
-use crate::clashes::{OtherName, one_file};
+use crate::clashes::{Clash, OtherName, one_file};
 use crate::faults::{box_file, faulty_name, second_box};
-use crate::word_places::{read_line, read_places};
+use crate::word_places::read_line;
 use hand_faults::{HandCause, HandFault};
 use job_commands::{Command, InputFault, Status, read_command};
-use plain_text::{LineCause, LineFault, Text};
+use plain_machine::PlayFault;
+use plain_text::{LineFault, Text};
 use schedule_check::Refutation;
 use std::io;
-use std::path::Path;
 use std::rt::Files;
 
 /// Tells in a further line on standard error, after the text of the status, what helps: which two
@@ -36,12 +41,12 @@ pub fn tell_more<R: AllocGlobal + Files + Eprint>(
     status: Status,
 ) -> io::Result<()> {
     match status {
-        Status::BadWords => tell_words(rt, words),
-        Status::ReadFault => tell_unread(rt, words),
+        Status::BadWords => tell(rt, Some(advise_words(rt, words))),
+        Status::ReadFault => unread::tell_unread(rt, words),
         Status::WriteFault => written::tell_unwritten(rt, words),
         Status::BadInput(fault) => tell_fault(rt, words, fault),
         Status::TooLarge(limit) => {
-            limits::tell_limit(rt, words, limit)?;
+            tell(rt, limits::advise(rt, words, limit))?;
             tell_of_box(rt, words)
         }
         Status::Refuted(refutation) => {
@@ -53,51 +58,68 @@ pub fn tell_more<R: AllocGlobal + Files + Eprint>(
 }
 
 /// Which name is not to be that of a file which is written, or which command was meant.
-fn tell_words<R: AllocGlobal + Files + Eprint>(rt: &R, words: &[Text]) -> io::Result<()> {
-    let Some(clash) = one_file(rt, words) else {
-        return calls::tell_usage(rt, words);
-    };
-    let Some(written) = words.get(clash.written) else {
-        return Ok(());
-    };
-    let written = Shown::name(written.as_str());
-    match clash.other {
-        OtherName::Word(place) => match words.get(place) {
-            Some(other) => {
-                let other = Shown::name(other.as_str());
-                eprintln!(rt; "{other} and {written} are one file")
-            }
-            None => Ok(()),
-        },
-        OtherName::Output => {
-            eprintln!(rt; "{written} is standard output, on which the report is printed")
-        }
-        OtherName::Errors => eprintln!(rt; "{written} is standard error"),
+fn advise_words<'a, R: AllocGlobal + Files>(rt: &R, words: &'a [Text]) -> Advice<'a> {
+    match one_file(rt, words) {
+        Some(clash) => advise_clash(words, clash),
+        None => calls::advise(words),
     }
 }
 
-/// Which of the inputs is not there, and what the system says of it. Nothing is told where each is
-/// there: then reading failed.
-fn tell_unread<R: AllocGlobal + Files + Eprint>(rt: &R, words: &[Text]) -> io::Result<()> {
-    let places = read_places(words);
-    for place in 0..words.len() {
-        if !places.is_input(place) {
-            continue;
-        }
-        let name = words[place].as_str();
-        let shown = Shown::name(name);
-        match Path::new(name).metadata(rt) {
-            Ok(about) if about.is_dir() => return eprintln!(rt; "{shown}: it is a folder"),
-            Ok(about) if about.is_file() => {
-                if let Some(error) = files::reading_error(rt, name) {
-                    return eprintln!(rt; "{shown}: {error}");
-                }
-            }
-            Ok(_) => {}
-            Err(error) => return eprintln!(rt; "{shown}: {error}"),
-        }
+fn advise_clash(words: &[Text], clash: Clash) -> Advice<'_> {
+    let written = name_at(words, clash.written);
+    match clash.other {
+        OtherName::Word(place) => Advice::OneFile(name_at(words, place), written),
+        OtherName::Output => Advice::Name(
+            written,
+            " is standard output, on which the report is printed",
+        ),
+        OtherName::Errors => Advice::Name(written, " is standard error"),
     }
-    Ok(())
+}
+
+/// The word at this place, or no bytes.
+fn name_at(words: &[Text], place: usize) -> Shown<'_> {
+    match words.get(place) {
+        Some(word) => Shown::name(word.as_str()),
+        None => Shown::name(""),
+    }
+}
+
+/// What is asked of a file that is read again.
+#[derive(Clone, Copy)]
+enum Question {
+    /// What stands where it leaves its grammar; the grammar is that of a script, where it is one.
+    Fault(InputFault, Grammar),
+    /// Which move is not legal.
+    Move(PlayFault),
+    /// Whether a box makes no sense.
+    Doubt,
+    /// Whether a handover has no seal.
+    Seal,
+}
+
+/// Reads a file again, and tells what is asked of it.
+fn tell_of<R: AllocGlobal + Files + Eprint>(
+    rt: &R,
+    name: Option<&Text>,
+    question: Question,
+) -> io::Result<()> {
+    let Some(name) = name else {
+        return Ok(());
+    };
+    match read_again(rt, name) {
+        Some(text) => tell(rt, answer(Shown::name(name.as_str()), &text, question)),
+        None => Ok(()),
+    }
+}
+
+fn answer<'a>(name: Shown<'a>, text: &'a [u8], question: Question) -> Option<Advice<'a>> {
+    match question {
+        Question::Fault(fault, grammar) => advise_fault(name, text, fault, grammar),
+        Question::Move(fault) => lines::advise_move(name, text, fault),
+        Question::Doubt => Some(Advice::Name(name, boxes::doubt_in(text)?)),
+        Question::Seal => Some(Advice::Name(name, files::unsealed(text)?)),
+    }
 }
 
 /// What stands in the input where it leaves its grammar.
@@ -106,22 +128,31 @@ fn tell_fault<R: AllocGlobal + Files + Eprint>(
     words: &[Text],
     fault: InputFault,
 ) -> io::Result<()> {
-    let Some(name) = faulty_name(read_line(words), fault) else {
-        return Ok(());
-    };
+    let name = faulty_name(read_line(words), fault);
+    tell_of(rt, name, Question::Fault(fault, script_grammar(words)))
+}
+
+fn advise_fault<'a>(
+    name: Shown<'a>,
+    text: &'a [u8],
+    fault: InputFault,
+    script: Grammar,
+) -> Option<Advice<'a>> {
     match fault {
-        InputFault::BoxFile(fault) | InputFault::SecondBox(fault) => tell_box(rt, name, fault),
+        InputFault::BoxFile(fault) | InputFault::SecondBox(fault) => {
+            boxes::advise(name, text, fault)
+        }
         InputFault::Capture(fault) | InputFault::Released(fault) => {
-            captures::tell_pcap(rt, name, fault)
+            captures::advise_pcap(name, text, fault)
         }
         InputFault::NgCapture(fault) | InputFault::NgReleased(fault) => {
-            captures::tell_pcapng(rt, name, fault)
+            captures::advise_pcapng(name, text, fault)
         }
-        InputFault::Handover(fault) => tell_handover(rt, name, fault),
-        InputFault::Script(fault) => lines::tell_line(rt, name, fault, script_grammar(words)),
-        InputFault::Plan(fault) => lines::tell_line(rt, name, fault, Grammar::Plan),
-        InputFault::Schedule(fault) => lines::tell_line(rt, name, fault, Grammar::Schedule),
-        InputFault::Moves(fault) => lines::tell_move(rt, name, fault),
+        InputFault::Handover(fault) => advise_handover(name, text, fault),
+        InputFault::Script(fault) => lines::advise(name, text, fault, script),
+        InputFault::Plan(fault) => lines::advise(name, text, fault, Grammar::Plan),
+        InputFault::Schedule(fault) => lines::advise(name, text, fault, Grammar::Schedule),
+        InputFault::Moves(fault) => lines::advise_move(name, text, fault),
     }
 }
 
@@ -134,34 +165,17 @@ fn script_grammar(words: &[Text]) -> Grammar {
 }
 
 /// What stands in a handover from which no system goes on.
-fn tell_handover<R: AllocGlobal + Files + Eprint>(
-    rt: &R,
-    name: &Text,
-    fault: HandFault,
-) -> io::Result<()> {
+fn advise_handover<'a>(name: Shown<'a>, text: &'a [u8], fault: HandFault) -> Option<Advice<'a>> {
     let line = fault.line;
     match fault.cause {
         HandCause::Line(cause) => {
-            lines::tell_line(rt, name, LineFault { line, cause }, Grammar::Handover)
+            lines::advise(name, text, LineFault { line, cause }, Grammar::Handover)
         }
         HandCause::Box
         | HandCause::Capture
         | HandCause::Count
         | HandCause::Move(_)
-        | HandCause::Released => lines::show_line(rt, name, line),
-    }
-}
-
-/// What stands in a box file where it leaves its grammar.
-fn tell_box<R: AllocGlobal + Files + Eprint>(
-    rt: &R,
-    name: &Text,
-    fault: LineFault,
-) -> io::Result<()> {
-    if fault.cause == LineCause::MissingLine {
-        boxes::tell_missing(rt, name)
-    } else {
-        lines::tell_line(rt, name, fault, Grammar::BoxFile)
+        | HandCause::Released => lines::show_line(name, text, line),
     }
 }
 
@@ -175,8 +189,10 @@ fn tell_refuted<R: AllocGlobal + Files + Eprint>(
         return Ok(());
     };
     match refutation {
-        Refutation::Moves(fault) => lines::tell_move(rt, names.files.schedule, fault),
-        Refutation::Packet(number) => refuted::tell_packet(rt, names, number),
+        Refutation::Moves(fault) => {
+            tell_of(rt, Some(names.files.schedule), Question::Move(fault))
+        }
+        Refutation::Packet(number) => tell(rt, refuted::advise(rt, names, number)),
     }
 }
 
@@ -185,14 +201,10 @@ fn tell_of_box<R: AllocGlobal + Files + Eprint>(rt: &R, words: &[Text]) -> io::R
     let Some(command) = read_command(read_line(words)) else {
         return Ok(());
     };
-    if let Some(name) = box_file(command) {
-        boxes::warn(rt, name)?;
-    }
-    if let Some(name) = second_box(command) {
-        boxes::warn(rt, name)?;
-    }
+    tell_of(rt, box_file(command), Question::Doubt)?;
+    tell_of(rt, second_box(command), Question::Doubt)?;
     match command {
-        Command::Resume(names) => files::warn_unsealed(rt, names.handover),
+        Command::Resume(names) => tell_of(rt, Some(names.handover), Question::Seal),
         _ => Ok(()),
     }
 }

@@ -1,9 +1,9 @@
+use super::advice::{Advice, FileAdvice};
 use super::files::read_again;
 use super::shown::Shown;
 use pcap_io::{CaptureCause, CaptureFault};
 use pcapng_io::{AnyCaptured, NgCause, NgFault, read_any_capture};
 use plain_text::{Packets, Text, Unit};
-use std::io;
 use std::rt::Files;
 use world_io::SliceSource;
 
@@ -37,77 +37,51 @@ fn any_again<R: AllocGlobal + Files>(rt: &R, name: &Text) -> Option<AnyCaptured>
     Some(read_any_capture(rt.alloc(), &mut source))
 }
 
-/// Tells what a file is that begins as no capture does, which link type one has, or where it ends.
-pub fn tell_pcap<R: AllocGlobal + Files + Eprint>(
-    rt: &R,
-    name: &Text,
+/// What a file is that begins as no capture does, which link type one has, or where it ends.
+pub fn advise_pcap<'a>(
+    name: Shown<'a>,
+    bytes: &'a [u8],
     fault: CaptureFault,
-) -> io::Result<()> {
-    let Some(bytes) = read_again(rt, name) else {
-        return Ok(());
-    };
-    let name = Shown::name(name.as_str());
+) -> Option<Advice<'a>> {
     match fault.cause {
-        CaptureCause::BadMagic => tell_kind(rt, name, &bytes),
-        CaptureCause::BadLinkType => match pcap_link_type(&bytes) {
-            Some(number) => tell_link_type(rt, name, number),
-            None => Ok(()),
-        },
-        CaptureCause::ShortHeader => {
-            let count = bytes.len();
-            eprintln!(rt; "{name}: the file ends after {count} bytes: it is no capture, or was cut")
-        }
-        CaptureCause::ShortRecord => {
-            let count = bytes.len();
-            eprintln!(rt; "{name}: the file ends after {count} bytes: it may have been cut")
-        }
-        CaptureCause::BadVersion | CaptureCause::TooLong => Ok(()),
+        CaptureCause::BadMagic => Some(Advice::Name(name, kind_of(bytes))),
+        CaptureCause::BadLinkType => link_type(name, pcap_link_type(bytes)?),
+        CaptureCause::ShortHeader => ends(name, bytes, "it is no capture, or was cut"),
+        CaptureCause::ShortRecord => ends(name, bytes, "it may have been cut"),
+        CaptureCause::BadVersion | CaptureCause::TooLong => None,
     }
 }
 
-/// Tells which link type a pcapng capture has, or where it ends.
-pub fn tell_pcapng<R: AllocGlobal + Files + Eprint>(
-    rt: &R,
-    name: &Text,
-    fault: NgFault,
-) -> io::Result<()> {
-    let Some(bytes) = read_again(rt, name) else {
-        return Ok(());
-    };
-    let name = Shown::name(name.as_str());
+/// Which link type a pcapng capture has, or where it ends.
+pub fn advise_pcapng<'a>(name: Shown<'a>, bytes: &'a [u8], fault: NgFault) -> Option<Advice<'a>> {
     match fault.cause {
-        NgCause::BadLinkType => match block_link_type(&bytes, fault.offset) {
-            Some(number) => tell_link_type(rt, name, number),
-            None => Ok(()),
-        },
-        NgCause::ShortBlock => {
-            let count = bytes.len();
-            eprintln!(rt; "{name}: the file ends after {count} bytes: it may have been cut")
-        }
-        _ => Ok(()),
-    }
-}
-
-fn tell_link_type<R: Eprint>(rt: &R, name: Shown<'_>, number: u32) -> io::Result<()> {
-    eprintln!(rt; "{name}: link type {number}, and only Ethernet (1) can be read")
-}
-
-/// What a file is that begins as no capture does.
-fn tell_kind<R: Eprint>(rt: &R, name: Shown<'_>, bytes: &[u8]) -> io::Result<()> {
-    match compression(bytes) {
-        Some(kind) => eprintln!(rt; "{name}: the file is compressed ({kind}): unpack it first"),
-        None => eprintln!(rt; "{name}: it begins as neither a pcap nor a pcapng capture does"),
-    }
-}
-
-/// What compressed the file, by its first bytes (RFC 1952, section 2.3.1; RFC 8878, section 3.1.1).
-fn compression(bytes: &[u8]) -> Option<&'static str> {
-    match bytes {
-        [0x1f, 0x8b, ..] => Some("gzip"),
-        [0x28, 0xb5, 0x2f, 0xfd, ..] => Some("zstd"),
-        [0xfd, 0x37, 0x7a, 0x58, ..] => Some("xz"),
-        [0x42, 0x5a, 0x68, ..] => Some("bzip2"),
+        NgCause::BadLinkType => link_type(name, block_link_type(bytes, fault.offset)?),
+        NgCause::ShortBlock => ends(name, bytes, "it may have been cut"),
         _ => None,
+    }
+}
+
+fn link_type(name: Shown<'_>, number: u32) -> Option<Advice<'_>> {
+    Some(Advice::File(FileAdvice::LinkType(name, number)))
+}
+
+fn ends<'a>(name: Shown<'a>, bytes: &'a [u8], why: &'static str) -> Option<Advice<'a>> {
+    Some(Advice::File(FileAdvice::Ends(name, bytes.len(), why)))
+}
+
+/// What a file is that begins as no capture does: what compressed it, by its first bytes (RFC 1952, section 2.3.1; RFC
+/// 8878, section 3.1.1).
+fn kind_of(bytes: &[u8]) -> &'static str {
+    if bytes.starts_with(b"\x1f\x8b") {
+        ": the file is compressed (gzip): unpack it first"
+    } else if bytes.starts_with(b"\x28\xb5\x2f\xfd") {
+        ": the file is compressed (zstd): unpack it first"
+    } else if bytes.starts_with(b"\xfd7zX") {
+        ": the file is compressed (xz): unpack it first"
+    } else if bytes.starts_with(b"BZh") {
+        ": the file is compressed (bzip2): unpack it first"
+    } else {
+        ": it begins as neither a pcap nor a pcapng capture does"
     }
 }
 

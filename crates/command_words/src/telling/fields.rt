@@ -1,4 +1,4 @@
-//! The fields of frames, packets and segments, each with the place behind its last byte.
+//! The fields of frames, packets and segments, each with the place after its last byte.
 
 /// The place where the next field begins, and the name of this one.
 type Part = (usize, &'static str);
@@ -83,8 +83,12 @@ fn part_or_packet(frame: &[u8], place: usize, parts: &[Part], length: usize) -> 
 
 /// The name of the field at this place, of a header with these.
 fn part_at(parts: &[Part], place: usize) -> Option<&'static str> {
-    let (_, name) = parts.iter().copied().find(|part| place < part.0)?;
-    Some(name)
+    for part in parts {
+        if place < part.0 {
+            return Some(part.1);
+        }
+    }
+    None
 }
 
 /// The field of an IPv4 packet at this place.
@@ -96,15 +100,15 @@ fn packet_field(packet: &[u8], place: usize) -> &'static str {
         return DATA;
     };
     let length = usize::from(*first & 15) * 4;
-    let Some(behind) = place.checked_sub(length) else {
+    let Some(after) = place.checked_sub(length) else {
         return "options of IPv4";
     };
     if *high & 0x1f != 0 || *low != 0 {
         return DATA;
     }
     match *protocol {
-        6 => segment_field(packet.get(length..).unwrap_or(&[]), behind),
-        17 => part_at(&UDP_PARTS, behind).unwrap_or(DATA),
+        6 => segment_field(packet.get(length..).unwrap_or(&[]), after),
+        17 => part_at(&UDP_PARTS, after).unwrap_or(DATA),
         _ => DATA,
     }
 }
@@ -115,7 +119,7 @@ fn segment_field(segment: &[u8], place: usize) -> &'static str {
         return name;
     }
     match segment.get(12) {
-        Some(offset) if place < usize::from(*offset >> 4) * 4 => "TCP options",
+        Some(offset) if place < usize::from(*offset / 16) * 4 => "TCP options",
         _ => DATA,
     }
 }

@@ -1,4 +1,3 @@
-use super::shown::Shown;
 use plain_text::{MOST_FILE_BYTES, Text};
 use std::alloc::Global;
 use std::path::Path;
@@ -16,14 +15,12 @@ pub fn read_again<R: AllocGlobal + Files>(rt: &R, name: &Text) -> Option<Vec<u8>
     fs::read(rt, path).ok()
 }
 
-/// Warns of a handover without a seal.
-pub fn warn_unsealed<R: AllocGlobal + Files + Eprint>(rt: &R, name: &Text) -> io::Result<()> {
-    match read_again(rt, name) {
-        Some(text) if !text.starts_with(b"handover 2 ") => {
-            let name = Shown::name(name.as_str());
-            eprintln!(rt; "{name}: warning: no seal says that it is of this box and this capture")
-        }
-        _ => Ok(()),
+/// What is told of a handover without a seal.
+pub fn unsealed(text: &[u8]) -> Option<&'static str> {
+    if text.starts_with(b"handover 2 ") {
+        None
+    } else {
+        Some(": warning: no seal says that it is of this box and this capture")
     }
 }
 

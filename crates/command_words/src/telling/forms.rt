@@ -1,8 +1,9 @@
 use super::nearest::{is_meant, nearest};
+use super::word_parts::{first_word, word_at};
 use plain_text::words;
 
 /// What a text file is to be.
-#[derive(Clone, Copy, PartialEq, Eq)]
+#[derive(Clone, Copy)]
 pub enum Grammar {
     BoxFile,
     Script,
@@ -165,27 +166,29 @@ impl Grammar {
 
     /// The form of the lines with this first word.
     fn form_named(self, word: &[u8]) -> Option<LineForm> {
-        self.forms()
-            .iter()
-            .copied()
-            .find(|row| row.0.as_bytes() == word)
-            .map(form_from)
+        for row in self.forms() {
+            if row.0.as_bytes() == word {
+                return Some(form_from(*row));
+            }
+        }
+        None
     }
 
     /// The first word that was meant.
     fn word_near(self, word: &[u8]) -> Option<&'static str> {
-        self.forms()
-            .iter()
-            .map(|row| row.0)
-            .find(|known| is_meant(word, known.as_bytes()))
+        for row in self.forms() {
+            if is_meant(word, row.0.as_bytes()) {
+                return Some(row.0);
+            }
+        }
+        None
     }
 
-    /// The first word whose form a line of this file has.
-    fn first_word(self, line: &[u8]) -> Option<&[u8]> {
-        if self == Grammar::Chain {
-            words(line).nth(1)
-        } else {
-            words(line).next()
+    /// At which place of a line the word stands whose form it has.
+    fn first_place(self) -> usize {
+        match self {
+            Grammar::Chain => 1,
+            _ => 0,
         }
     }
 
@@ -194,7 +197,7 @@ impl Grammar {
         match self {
             Grammar::Schedule => Some(form_from(MOVE)),
             Grammar::Chain if !names_system(line) => Some(form_from(SYSTEM)),
-            _ => match self.first_word(line) {
+            _ => match word_at(line, self.first_place()) {
                 Some(word) => self.form_named(word),
                 None => Some(form_from(SYSTEM)),
             },
@@ -204,8 +207,8 @@ impl Grammar {
 
 /// Whether a line begins as those of a chain's script do.
 fn names_system(line: &[u8]) -> bool {
-    let word = words(line).next();
-    word == Some(b"1".as_slice()) || word == Some(b"2".as_slice())
+    let word = first_word(line);
+    word == b"1".as_slice() || word == b"2".as_slice()
 }
 
 /// A word of a line that is in no line of its grammar, and the word that was meant.
@@ -217,27 +220,46 @@ pub struct Stranger<'a> {
 
 /// The first word of a line that is in no line of this grammar, and is no number.
 pub fn stranger_in(grammar: Grammar, line: &[u8]) -> Option<Stranger<'_>> {
-    if grammar == Grammar::Chain && !names_system(line) {
-        return None;
-    }
-    if grammar != Grammar::Schedule {
-        let word = grammar.first_word(line)?;
-        if grammar.form_named(word).is_none() {
-            let near = grammar.word_near(word);
-            return Some(Stranger { word, near });
+    match grammar {
+        Grammar::Schedule => stranger_after(grammar, line),
+        Grammar::Chain if !names_system(line) => None,
+        _ => {
+            let word = word_at(line, grammar.first_place())?;
+            match grammar.form_named(word) {
+                Some(_) => stranger_after(grammar, line),
+                None => Some(Stranger {
+                    word,
+                    near: grammar.word_near(word),
+                }),
+            }
         }
     }
+}
+
+/// The same of the words after the one whose form the line has.
+fn stranger_after(grammar: Grammar, line: &[u8]) -> Option<Stranger<'_>> {
     let known = grammar.later_words();
-    let behind = if grammar == Grammar::Chain { 2 } else { 1 };
-    let word = words(line)
-        .skip(behind)
-        .find(|word| !is_known(word, known))?;
-    let near = nearest(word, known);
-    Some(Stranger { word, near })
+    let first = grammar.first_place();
+    let mut place: usize = 0;
+    for word in words(line) {
+        if place > first && !is_known(word, known) {
+            let near = nearest(word, known);
+            return Some(Stranger { word, near });
+        }
+        place = place.saturating_add(1);
+    }
+    None
 }
 
 /// Whether a word is one of these, or begins as a number does.
 fn is_known(word: &[u8], known: &[&'static str]) -> bool {
-    word.first().is_some_and(|first| first.is_ascii_digit())
-        || known.iter().any(|known| known.as_bytes() == word)
+    for known in known {
+        if known.as_bytes() == word {
+            return true;
+        }
+    }
+    match word.first() {
+        Some(first) => first.is_ascii_digit(),
+        None => false,
+    }
 }

@@ -1,10 +1,9 @@
-use super::files::read_again;
-use super::forms::{Grammar, Stranger, stranger_in};
+use super::advice::{Advice, Flaw, LineAdvice};
+use super::forms::{Grammar, stranger_in};
 use super::shown::Shown;
+use super::word_parts::{first_word, word_or_none};
 use plain_machine::{PlayCause, PlayFault};
-use plain_text::{LineCause, LineFault, Text, lines, words};
-use std::io;
-use std::rt::Files;
+use plain_text::{LineCause, LineFault, lines};
 
 /// How many bytes of a line are shown.
 const MOST_SHOWN: usize = 60;
@@ -13,7 +12,7 @@ const MOST_SHOWN: usize = 60;
 #[derive(Clone, Copy)]
 struct Told<'a> {
     /// The name of the file.
-    name: &'a Text,
+    name: Shown<'a>,
     /// Its bytes.
     text: &'a [u8],
     /// The number of the line, from 1.
@@ -22,105 +21,99 @@ struct Told<'a> {
     line: &'a [u8],
 }
 
-/// Shows the line that is refused, and tells what is wrong with it: which word is in no line, which line it repeats, or
-/// what its form is.
-pub fn tell_line<R: AllocGlobal + Files + Eprint>(
-    rt: &R,
-    name: &Text,
+impl<'a> Told<'a> {
+    /// What is told of it where this is wrong with it.
+    fn advice(self, flaw: Flaw<'a>) -> Advice<'a> {
+        Advice::Line(LineAdvice {
+            name: self.name,
+            number: self.number,
+            front: front(self.line),
+            flaw,
+        })
+    }
+}
+
+/// What is wrong with the line that is refused: which word is in no line, which line it repeats, or what its form is.
+pub fn advise<'a>(
+    name: Shown<'a>,
+    text: &'a [u8],
     fault: LineFault,
     grammar: Grammar,
-) -> io::Result<()> {
-    let Some(text) = read_again(rt, name) else {
-        return Ok(());
-    };
-    if let Some(mark) = byte_order_mark(&text) {
-        let name = Shown::name(name.as_str());
-        return eprintln!(rt;
-            "{name}: it begins with a byte order mark ({mark}): save it without one"
-        );
+) -> Option<Advice<'a>> {
+    if let Some(mark) = byte_order_mark(text) {
+        return Some(Advice::Name(name, mark));
     }
-    let Some(told) = line_at(name, &text, fault.line) else {
-        return Ok(());
-    };
+    let told = line_at(name, text, fault.line)?;
     match fault.cause {
-        LineCause::UnknownWord => tell_unknown(rt, told, grammar),
-        LineCause::Twice => tell_repeated(rt, told),
+        LineCause::UnknownWord => Some(told.advice(unknown_word(told, grammar))),
+        LineCause::Twice => Some(told.advice(repeated_line(told))),
         LineCause::MissingWord
         | LineCause::ExtraWord
         | LineCause::BadNumber
-        | LineCause::OutOfRange => tell_form(rt, told, grammar),
-        LineCause::MissingLine => Ok(()),
+        | LineCause::OutOfRange => Some(told.advice(form_of(told, grammar))),
+        LineCause::MissingLine => None,
     }
 }
 
-/// Shows a line.
-pub fn show_line<R: AllocGlobal + Files + Eprint>(
-    rt: &R,
-    name: &Text,
-    number: u64,
-) -> io::Result<()> {
-    let Some(text) = read_again(rt, name) else {
-        return Ok(());
-    };
-    match line_at(name, &text, number) {
-        Some(told) => tell_shown(rt, told),
-        None => Ok(()),
-    }
+/// The line with this number.
+pub fn show_line<'a>(name: Shown<'a>, text: &'a [u8], number: u64) -> Option<Advice<'a>> {
+    let told = line_at(name, text, number)?;
+    Some(told.advice(Flaw::Told("")))
 }
 
-/// Shows the line of the first move that is not legal, and tells why it is not.
-pub fn tell_move<R: AllocGlobal + Files + Eprint>(
-    rt: &R,
-    name: &Text,
-    fault: PlayFault,
-) -> io::Result<()> {
-    let Some(text) = read_again(rt, name) else {
-        return Ok(());
-    };
-    let Some(told) = move_at(name, &text, fault.number) else {
-        return Ok(());
-    };
-    let name = Shown::name(told.name.as_str());
-    let number = told.number;
-    let shown = front(told.line);
+/// The line of the first move that is not legal, and why it is not.
+pub fn advise_move<'a>(name: Shown<'a>, text: &'a [u8], fault: PlayFault) -> Option<Advice<'a>> {
+    let told = move_at(name, text, fault.number)?;
     let why = match fault.cause {
-        PlayCause::NoSuchThread => "the threads of the box count from 0",
-        PlayCause::NothingToTake => "its thread has no packet left",
-        PlayCause::MissingAnswer => "the move is told an answer: T = A",
-        PlayCause::UnwantedAnswer => "the move is told no answer",
+        PlayCause::NoSuchThread => "; the threads of the box count from 0",
+        PlayCause::NothingToTake => "; its thread has no packet left",
+        PlayCause::MissingAnswer => "; the move is told an answer: T = A",
+        PlayCause::UnwantedAnswer => "; the move is told no answer",
     };
-    eprintln!(rt; "{name}: line {number} is: {shown}; {why}")
+    Some(told.advice(Flaw::Told(why)))
 }
 
 /// The line with this number, if it counts.
-fn line_at<'a>(name: &'a Text, text: &'a [u8], number: u64) -> Option<Told<'a>> {
-    let line = lines(text).find(|line| line.number == number)?.bytes;
-    Some(Told {
-        name,
-        text,
-        number,
-        line,
-    })
+fn line_at<'a>(name: Shown<'a>, text: &'a [u8], number: u64) -> Option<Told<'a>> {
+    for line in lines(text) {
+        if line.number == number {
+            return Some(Told {
+                name,
+                text,
+                number,
+                line: line.bytes,
+            });
+        }
+    }
+    None
 }
 
 /// The line of the move with this number, from 1.
-fn move_at<'a>(name: &'a Text, text: &'a [u8], place: u64) -> Option<Told<'a>> {
-    let before = usize::try_from(place.checked_sub(1)?).ok()?;
-    let line = lines(text).nth(before)?;
-    Some(Told {
-        name,
-        text,
-        number: line.number,
-        line: line.bytes,
-    })
+fn move_at<'a>(name: Shown<'a>, text: &'a [u8], number: u64) -> Option<Told<'a>> {
+    let mut left = number;
+    for line in lines(text) {
+        if left == 1 {
+            return Some(Told {
+                name,
+                text,
+                number: line.number,
+                line: line.bytes,
+            });
+        }
+        left = left.saturating_sub(1);
+    }
+    None
 }
 
-/// The mark that a text begins with, by which some editors tell in which form they wrote it (RFC 3629, section 6).
+/// What is told of the mark that a text begins with, by which some editors tell in which form they wrote it (RFC 3629,
+/// section 6).
 fn byte_order_mark(text: &[u8]) -> Option<&'static str> {
-    match text {
-        [0xef, 0xbb, 0xbf, ..] => Some("UTF-8"),
-        [0xff, 0xfe, ..] | [0xfe, 0xff, ..] => Some("UTF-16"),
-        _ => None,
+    if text.starts_with(b"\xef\xbb\xbf") {
+        Some(": it begins with a byte order mark (UTF-8): save it without one")
+    } else if text.starts_with(b"\xff\xfe") || text.starts_with(b"\xfe\xff") {
+        Some(": it begins with a byte order mark (UTF-16): save it without one")
+    } else {
+        None
     }
 }
 
@@ -129,48 +122,34 @@ fn front(line: &[u8]) -> Shown<'_> {
     Shown::of(line.get(..MOST_SHOWN).unwrap_or(line))
 }
 
-fn tell_shown<R: Eprint>(rt: &R, told: Told<'_>) -> io::Result<()> {
-    let name = Shown::name(told.name.as_str());
-    let number = told.number;
-    let shown = front(told.line);
-    eprintln!(rt; "{name}: line {number} is: {shown}")
-}
-
-/// Tells which word of a line is in no line of its grammar; where each is in one, how the line is to be.
-fn tell_unknown<R: Eprint>(rt: &R, told: Told<'_>, grammar: Grammar) -> io::Result<()> {
-    let Some(Stranger { word, near }) = stranger_in(grammar, told.line) else {
-        return tell_misplaced(rt, told, grammar);
+/// Which word of a line is in no line of its grammar; where each is in one, how the line is to be.
+fn unknown_word(told: Told<'_>, grammar: Grammar) -> Flaw<'_> {
+    let Some(stranger) = stranger_in(grammar, told.line) else {
+        return misplaced_line(told, grammar);
     };
-    let name = Shown::name(told.name.as_str());
-    let number = told.number;
-    let shown = front(told.line);
-    let word = front(word);
-    match near {
-        Some(near) => {
-            eprintln!(rt;
-                "{name}: line {number} is: {shown}; unknown keyword \"{word}\": is {near} meant?"
-            )
-        }
-        None => eprintln!(rt; "{name}: line {number} is: {shown}; unknown keyword \"{word}\""),
+    let word = front(stranger.word);
+    match stranger.near {
+        Some(near) => Flaw::Meant(word, near),
+        None => Flaw::Unknown(word),
     }
 }
 
-/// Tells why a line may not stand there, whose words are all in the grammar.
-fn tell_misplaced<R: Eprint>(rt: &R, told: Told<'_>, grammar: Grammar) -> io::Result<()> {
-    let name = Shown::name(told.name.as_str());
-    let number = told.number;
-    let shown = front(told.line);
+/// Why a line may not stand there, whose words are all in the grammar.
+fn misplaced_line(told: Told<'_>, grammar: Grammar) -> Flaw<'_> {
+    let word = first_word(told.line);
     match grammar {
-        Grammar::BoxFile if !begins_with(told.line, b"box") && is_first(told) => {
-            eprintln!(rt; "{name}: line {number} is: {shown}; the first line is to be: box KIND")
+        Grammar::BoxFile if word != b"box".as_slice() => {
+            let why = if is_first(told) {
+                "; the first line is to be: box KIND"
+            } else {
+                "; no such line in a box of this kind"
+            };
+            Flaw::Told(why)
         }
-        Grammar::BoxFile if !begins_with(told.line, b"box") => {
-            eprintln!(rt; "{name}: line {number} is: {shown}; no such line in a box of this kind")
+        Grammar::Handover if word != b"handover".as_slice() => {
+            Flaw::Told("; this line has another place")
         }
-        Grammar::Handover if !begins_with(told.line, b"handover") => {
-            eprintln!(rt; "{name}: line {number} is: {shown}; this line has another place")
-        }
-        _ => tell_form(rt, told, grammar),
+        _ => form_of(told, grammar),
     }
 }
 
@@ -182,27 +161,19 @@ fn is_first(told: Told<'_>) -> bool {
     }
 }
 
-/// Tells the form of a line, and one that has it.
-fn tell_form<R: Eprint>(rt: &R, told: Told<'_>, grammar: Grammar) -> io::Result<()> {
-    let Some(form) = grammar.form_of(told.line) else {
-        return tell_shown(rt, told);
-    };
-    let name = Shown::name(told.name.as_str());
-    let number = told.number;
-    let shown = front(told.line);
-    let example = form.example;
-    let form = form.form;
-    eprintln!(rt; "{name}: line {number} is: {shown}; its form: {form}, as: {example}")
+/// The form of a line, and one that has it.
+fn form_of(told: Told<'_>, grammar: Grammar) -> Flaw<'_> {
+    match grammar.form_of(told.line) {
+        Some(form) => Flaw::Form(form.form, form.example),
+        None => Flaw::Told(""),
+    }
 }
 
-/// Tells which line was repeated.
-fn tell_repeated<R: Eprint>(rt: &R, told: Told<'_>) -> io::Result<()> {
-    let name = Shown::name(told.name.as_str());
-    let number = told.number;
-    let shown = front(told.line);
+/// Which line was repeated.
+fn repeated_line(told: Told<'_>) -> Flaw<'_> {
     match line_before(told) {
-        Some(before) => eprintln!(rt; "{name}: line {number}: repeats line {before}: {shown}"),
-        None => eprintln!(rt; "{name}: line {number}: repeats an earlier one: {shown}"),
+        Some(before) => Flaw::Repeats(before),
+        None => Flaw::RepeatsEarlier,
     }
 }
 
@@ -225,9 +196,10 @@ fn is_in_way(line: &[u8], other: &[u8]) -> bool {
     if !shares(line, other, 0) {
         return false;
     }
-    if begins_with(line, b"backend") {
+    let word = first_word(line);
+    if word == b"backend".as_slice() {
         shares(line, other, 1) && shares(line, other, 2)
-    } else if begins_with(line, b"static") {
+    } else if word == b"static".as_slice() {
         let inside = shares(line, other, 2) && shares(line, other, 3);
         shares(line, other, 1) && (inside || shares(line, other, 4))
     } else {
@@ -235,12 +207,7 @@ fn is_in_way(line: &[u8], other: &[u8]) -> bool {
     }
 }
 
-/// Whether two lines have the same word at this place.
+/// Whether two lines have the same word at this place, or neither has one.
 fn shares(line: &[u8], other: &[u8], place: usize) -> bool {
-    words(line).nth(place) == words(other).nth(place)
-}
-
-/// Whether this is the first word of a line.
-fn begins_with(line: &[u8], word: &[u8]) -> bool {
-    words(line).next() == Some(word)
+    word_or_none(line, place) == word_or_none(other, place)
 }

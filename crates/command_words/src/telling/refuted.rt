@@ -1,17 +1,24 @@
+ghost use Rattle.std.specs.Prelude.{◌≤◌, IfSome};
+
+use super::advice::{Advice, Difference, PacketAdvice};
 use super::captures::{Captured, capture_again};
 use super::fields::field_at;
 use super::files::read_again;
+use super::nearest::equal_front;
 use super::shown::Shown;
-use box_conf::{BoxKind, read_box};
+use box_conf::{BoxConf, BoxKind, read_box};
 use input_logger::InputLog;
 use job_commands::{CheckWords, ScheduleFiles};
 use plain_machine::Schedule;
 use plain_player::read_schedule;
-use plain_text::{Packet, Packets, Unit};
+use plain_text::{Packet, Packets, Text, Unit};
 use schedule_check::{emit, feed_all};
 use std::alloc::Global;
-use std::io;
 use std::rt::Files;
+
+/// How many packets are compared at most to find those that were taken: some 64 for each packet of the largest capture.
+/// Captures in the order of the schedule need one or two.
+const MOST_COMPARED: usize = 64 * 65_536;
 
 /// A packet with what the fraction of its time counts.
 #[derive(Clone, Copy)]
@@ -42,14 +49,17 @@ impl<'a> Timed<'a> {
     fn differences(self, other: Timed<'_>) -> usize {
         let bytes = self.packet.bytes.as_slice();
         let others = other.packet.bytes.as_slice();
-        let unequal = bytes
-            .iter()
-            .zip(others.iter())
-            .filter(|(a, b)| a != b)
-            .count();
-        unequal
-            .saturating_add(bytes.len().abs_diff(others.len()))
-            .saturating_add(usize::from(!self.is_at_once(other)))
+        let mut count = bytes.len().abs_diff(others.len());
+        for (byte, other) in bytes.iter().zip(others.iter()) {
+            if *byte != *other {
+                count = count.saturating_add(1);
+            }
+        }
+        if self.is_at_once(other) {
+            count
+        } else {
+            count.saturating_add(1)
+        }
     }
 }
 
@@ -60,48 +70,91 @@ fn nanoseconds_of(unit: Unit, packet: &Packet) -> u64 {
     }
 }
 
-/// Tells in what a released packet that was refused differs from the nearest packet that the schedule sends out and
-/// that no earlier released packet was taken for. The schedule is played once more.
-pub fn tell_packet<R: AllocGlobal + Files + Eprint>(
+/// In what a released packet that was refused differs from the nearest packet that the schedule sends out and that no
+/// earlier released packet was taken for. The schedule is played once more. Nothing is told where that would take more
+/// than `MOST_COMPARED` comparisons.
+pub fn advise<'a, R: AllocGlobal + Files>(
+    rt: &R,
+    names: CheckWords<'a>,
+    number: u64,
+) -> Option<Advice<'a>> {
+    let why = find_difference(rt, names, number)?;
+    let name = Shown::name(names.released.as_str());
+    Some(Advice::Packet(PacketAdvice { name, number, why }))
+}
+
+fn find_difference<R: AllocGlobal + Files>(
     rt: &R,
     names: CheckWords<'_>,
     number: u64,
-) -> io::Result<()> {
-    let name = Shown::name(names.released.as_str());
-    let Some(sent) = play_again(rt, names.files) else {
-        return Ok(());
-    };
-    let Some(released) = capture_again(rt, names.released) else {
-        return Ok(());
-    };
-    let Some(refused) = packet_at(&released, number) else {
-        return Ok(());
-    };
-    if let Some(place) = place_of_same(&sent, refused) {
-        return eprintln!(rt;
-            "{name}: packet {number} is emission {place} once more, as an earlier packet is"
-        );
+) -> Option<Difference> {
+    let sent = play_again(rt, names.files)?;
+    let released = capture_again(rt, names.released)?;
+    difference_between(rt.alloc(), &sent, &released, number)
+}
+
+fn difference_between(
+    alloc: Global,
+    sent: &Captured,
+    released: &Captured,
+    number: u64,
+) -> Option<Difference> {
+    let refused = packet_at(released, number)?;
+    if let Some(place) = place_of_same(sent, refused) {
+        return Some(Difference::Again(place));
     }
-    let count = sent.packets.len();
-    match nearest_left(rt.alloc(), &sent, &released, number, refused) {
-        Some(near) => tell_difference(rt, name, number, refused, near),
-        None => eprintln!(rt;
-            "{name}: packet {number}: the schedule sends out {count} packets, all found before"
-        ),
+    let taken = taken_before(alloc, sent, released, number)?;
+    match nearest_left(sent, &taken, refused) {
+        Some(near) => Some(difference(refused, near)),
+        None => Some(Difference::AllFound(sent.packets.len())),
     }
 }
 
 /// The packets that the schedule sends out, by the files as they are now.
 fn play_again<R: AllocGlobal + Files>(rt: &R, names: ScheduleFiles<'_>) -> Option<Captured> {
-    let text = read_again(rt, names.box_file)?;
-    let conf = read_box(&text).ok()?;
-    let moves = read_again(rt, names.schedule)?;
-    let schedule = read_schedule(rt.alloc(), &moves).ok()?;
-    let capture = capture_again(rt, names.capture)?;
+    let conf = box_again(rt, names.box_file)?;
+    let fed = feed_again(rt, names.capture, conf.threads, conf.tags)?;
+    emit_again(rt, names.schedule, &conf.kind, &fed)
+}
+
+fn box_again<R: AllocGlobal + Files>(rt: &R, name: &Text) -> Option<BoxConf>
+    ensures some { IfSome result (λ conf. 1 ≤ conf.threads) }
+    ensures few { IfSome result (λ conf. conf.threads ≤ 16) }
+{
+    let text = read_again(rt, name)?;
+    read_box(&text).ok()
+}
+
+/// The packets of a capture as a box takes them.
+#[derive(Drop)]
+struct Fed {
+    unit: Unit,
+    inputs: InputLog,
+}
+
+fn feed_again<R: AllocGlobal + Files>(rt: &R, name: &Text, threads: u32, tags: bool) -> Option<Fed>
+    requires some { 1 ≤ threads }
+    requires few { threads ≤ 16 }
+{
+    let capture = capture_again(rt, name)?;
     let unit = capture.unit;
-    let inputs = feed_all(rt.alloc(), conf.threads, conf.tags, capture.packets).ok()?;
-    let packets = emit_by(rt.alloc(), &conf.kind, &inputs, &schedule)?;
-    Some(Captured { unit, packets })
+    let inputs = feed_all(rt.alloc(), threads, tags, capture.packets).ok()?;
+    Some(Fed { unit, inputs })
+}
+
+fn emit_again<R: AllocGlobal + Files>(
+    rt: &R,
+    name: &Text,
+    kind: &BoxKind,
+    fed: &Fed,
+) -> Option<Captured> {
+    let moves = read_again(rt, name)?;
+    let schedule = read_schedule(rt.alloc(), &moves).ok()?;
+    let packets = emit_by(rt.alloc(), kind, &fed.inputs, &schedule)?;
+    Some(Captured {
+        unit: fed.unit,
+        packets,
+    })
 }
 
 /// What a box of this kind sends out.
@@ -151,16 +204,8 @@ struct Emitted<'a> {
     sent: Timed<'a>,
 }
 
-/// Of the packets that were sent out, and that none of the released ones before this number was taken for, the one with
-/// the fewest differences from this packet.
-fn nearest_left<'a>(
-    alloc: Global,
-    sent: &'a Captured,
-    released: &Captured,
-    number: u64,
-    refused: Timed<'_>,
-) -> Option<Emitted<'a>> {
-    let taken = taken_before(alloc, sent, released, number)?;
+/// Of the packets that were sent out and not taken, the one with the fewest differences from this packet.
+fn nearest_left<'a>(sent: &'a Captured, taken: &[bool], refused: Timed<'_>) -> Option<Emitted<'a>> {
     let unit = sent.unit;
     let mut nearest = None;
     let mut fewest = usize::MAX;
@@ -177,7 +222,8 @@ fn nearest_left<'a>(
     nearest
 }
 
-/// Which of the packets that were sent out the released ones before this number were taken for.
+/// Which of the packets that were sent out the released ones before this number were taken for; `None` where they are
+/// too many to be compared.
 fn taken_before(
     alloc: Global,
     sent: &Captured,
@@ -189,12 +235,16 @@ fn taken_before(
     let unit = released.unit;
     let mut taken = vec![in alloc; false; sent.packets.len()].ok()?;
     let mut next = 0;
+    let mut room = MOST_COMPARED;
     for packet in earlier {
         let packet = Timed { packet, unit };
-        let found = match free_from(sent, &taken, next, packet) {
+        let found = match free_from(sent, &taken, next, packet, &mut room) {
             Some(place) => Some(place),
-            None => free_from(sent, &taken, 0, packet),
+            None => free_from(sent, &taken, 0, packet, &mut room),
         };
+        if room == 0 {
+            return None;
+        }
         if let Some(place) = found {
             if let Some(slot) = taken.get_mut(place) {
                 *slot = true;
@@ -205,85 +255,73 @@ fn taken_before(
     Some(taken)
 }
 
-/// The place of the first packet from this place on that is the same as another and is not taken.
-fn free_from(sent: &Captured, taken: &[bool], from: usize, packet: Timed<'_>) -> Option<usize> {
+/// The place of the first packet from this place on that is the same as another and is not taken. Of the room for
+/// comparisons what was compared is taken away, and no more is compared.
+fn free_from(
+    sent: &Captured,
+    taken: &[bool],
+    from: usize,
+    packet: Timed<'_>,
+    room: &mut usize,
+) -> Option<usize> {
     let unit = sent.unit;
     let packets = sent.packets.as_slice().get(from..)?;
     let taken = taken.get(from..)?;
-    let mut place = from;
-    for (other, is_taken) in packets.iter().zip(taken.iter()) {
+    let most = *room;
+    let mut compared: usize = 0;
+    for (other, is_taken) in packets.iter().zip(taken.iter()).take(most) {
         if !*is_taken
             && packet.is_same(Timed {
                 packet: other,
                 unit,
             })
         {
-            return Some(place);
+            *room = most.saturating_sub(compared);
+            return Some(from.saturating_add(compared));
         }
-        place = place.saturating_add(1);
+        compared = compared.saturating_add(1);
     }
+    *room = most.saturating_sub(compared);
     None
 }
 
-/// Tells in what a packet that was refused differs from one that was sent out: the first byte, with its field, or else
-/// how many bytes there are, or the time.
-fn tell_difference<R: Eprint>(
-    rt: &R,
-    name: Shown<'_>,
-    number: u64,
-    refused: Timed<'_>,
-    near: Emitted<'_>,
-) -> io::Result<()> {
+/// In what a packet that was refused differs from one that was sent out: the first byte, with its field, or else how
+/// many bytes there are, or the time.
+fn difference(refused: Timed<'_>, near: Emitted<'_>) -> Difference {
     let bytes = refused.packet.bytes.as_slice();
     let others = near.sent.packet.bytes.as_slice();
     let emission = near.number;
-    let place = first_unequal(bytes, others);
-    if let (Some(byte), Some(other)) = (bytes.get(place), others.get(place)) {
-        let field = field_at(others, place);
-        return eprintln!(rt;
-            "{name}: packet {number}: byte {place} is {byte}, {other} in emission {emission} ({field})"
-        );
+    let place = equal_front(bytes, others);
+    match (bytes.get(place), others.get(place)) {
+        (Some(byte), Some(other)) => Difference::Byte {
+            place,
+            byte: *byte,
+            other: *other,
+            emission,
+            field: field_at(others, place),
+        },
+        _ => difference_of_lengths(refused, near),
     }
-    let count = bytes.len();
-    let others = others.len();
-    if count != others {
-        return eprintln!(rt;
-            "{name}: packet {number}: it has {count} bytes, {others} in emission {emission}"
-        );
-    }
-    tell_times(rt, name, number, refused, near)
 }
 
-/// The same of packets that have the same bytes.
-fn tell_times<R: Eprint>(
-    rt: &R,
-    name: Shown<'_>,
-    number: u64,
-    refused: Timed<'_>,
-    near: Emitted<'_>,
-) -> io::Result<()> {
+/// The same where one has the bytes that the other begins with.
+fn difference_of_lengths(refused: Timed<'_>, near: Emitted<'_>) -> Difference {
     let emission = near.number;
-    let length = refused.packet.original;
-    let other = near.sent.packet.original;
-    if length != other {
-        return eprintln!(rt;
-            "{name}: packet {number}: {length} bytes on the wire, {other} in emission {emission}"
-        );
+    let count = refused.packet.bytes.len();
+    let other = near.sent.packet.bytes.len();
+    if count != other {
+        return Difference::Count(count, other, emission);
     }
-    let seconds = refused.packet.seconds;
-    let fraction = refused.nanoseconds();
-    let others = near.sent.packet.seconds;
-    let other = near.sent.nanoseconds();
-    eprintln!(rt;
-        "{name}: packet {number}: its time is {seconds}.{fraction:09}, {others}.{other:09} in emission {emission}"
-    )
-}
-
-/// How many bytes are the same at the front of both.
-fn first_unequal(bytes: &[u8], others: &[u8]) -> usize {
-    bytes
-        .iter()
-        .zip(others.iter())
-        .take_while(|(a, b)| a == b)
-        .count()
+    let count = refused.packet.original;
+    let other = near.sent.packet.original;
+    if count != other {
+        return Difference::Wire(count, other, emission);
+    }
+    Difference::Time {
+        seconds: refused.packet.seconds,
+        fraction: refused.nanoseconds(),
+        other_seconds: near.sent.packet.seconds,
+        other_fraction: near.sent.nanoseconds(),
+        emission,
+    }
 }

@@ -1,3 +1,4 @@
+use super::advice::{Advice, tell, tell_error};
 use super::shown::Shown;
 use crate::word_places::read_places;
 use plain_text::Text;
@@ -15,17 +16,26 @@ const PERMISSION_DENIED: i32 = 13;
 
 const NO_SPACE: i32 = 28;
 
+/// What is told of an output that was not created, where nothing tells why.
+const NOT_CREATED: &str = ": it was not created: its folder takes no file, or a disk is full";
+
+/// What is told of a first output that is there, and has nothing.
+const EMPTY: &str = ": nothing was written to it: its disk may be full";
+
+/// What is told where no output is at fault by its name.
+const DISK: &str = "no output is at fault by its name: a disk may be full";
+
+/// The same where standard output is a pipe, or can't be told.
+const DISK_OR_READER: &str =
+    "no output is at fault by its name: a disk is full, or nobody reads the report";
+
 /// What is in the way of an output.
 #[derive(Drop)]
 enum Obstacle {
-    /// It is the name of a folder.
-    Folder,
+    /// What is told of it.
+    Told(&'static str),
     /// What the system says of the name.
     Error(io::Error),
-    /// It was not created, and nothing tells why.
-    NotCreated,
-    /// The first output is there, and has nothing.
-    Empty,
 }
 
 /// Tells which of the outputs can't be written, and what the system says of it, as far as the names tell it now.
@@ -46,12 +56,8 @@ pub fn tell_unwritten<R: AllocGlobal + Files + Eprint>(rt: &R, words: &[Text]) -
 
 fn tell_obstacle<R: Eprint>(rt: &R, name: Shown<'_>, obstacle: Obstacle) -> io::Result<()> {
     match obstacle {
-        Obstacle::Folder => eprintln!(rt; "{name}: it is a folder"),
-        Obstacle::Error(error) => eprintln!(rt; "{name}: {error}"),
-        Obstacle::NotCreated => {
-            eprintln!(rt; "{name}: it was not created: its folder takes no file, or a disk is full")
-        }
-        Obstacle::Empty => eprintln!(rt; "{name}: nothing was written to it: its disk may be full"),
+        Obstacle::Told(text) => tell(rt, Some(Advice::Name(name, text))),
+        Obstacle::Error(error) => tell_error(rt, name, &error),
     }
 }
 
@@ -73,7 +79,7 @@ fn find_obstacle<R: Files>(rt: &R, name: &str, first: bool) -> Option<Obstacle> 
 /// The same of a name under which something is there. No stream is opened.
 fn obstacle_there<R: Files>(rt: &R, name: &str, about: &Metadata, first: bool) -> Option<Obstacle> {
     if about.is_dir() {
-        return Some(Obstacle::Folder);
+        return Some(Obstacle::Told(": it is a folder"));
     }
     if is_full(about) {
         return Some(Obstacle::Error(io::Error::from_raw_os_error(NO_SPACE)));
@@ -85,7 +91,7 @@ fn obstacle_there<R: Files>(rt: &R, name: &str, about: &Metadata, first: bool) -
     how.write(true);
     match how.open(rt, name) {
         Err(error) => Some(Obstacle::Error(error)),
-        Ok(_) if first && about.len() == 0 => Some(Obstacle::Empty),
+        Ok(_) if first && about.len() == 0 => Some(Obstacle::Told(EMPTY)),
         Ok(_) => None,
     }
 }
@@ -118,7 +124,7 @@ fn obstacle_to_creating<R: Files>(rt: &R, name: &str) -> Obstacle {
 fn obstacle_of_disk<R: Files>(rt: &R, name: &str) -> Obstacle {
     match fs::rename(rt, name, name) {
         Err(error) if error.kind() == ErrorKind::ReadOnlyFilesystem => Obstacle::Error(error),
-        _ => Obstacle::NotCreated,
+        _ => Obstacle::Told(NOT_CREATED),
     }
 }
 
@@ -151,19 +157,14 @@ fn is_closed(mode: u32, owns: bool, shares: bool) -> bool {
 /// Tells what is left where no output is at fault by its name: standard output, on which the report is written, or a
 /// disk.
 fn tell_report<R: Files + Eprint>(rt: &R) -> io::Result<()> {
-    let Ok(about) = Path::new("/dev/stdout").metadata(rt) else {
-        return tell_either(rt);
-    };
-    if is_full(&about) {
-        let error = io::Error::from_raw_os_error(NO_SPACE);
-        return eprintln!(rt; "standard output: {error}");
+    if let Ok(about) = Path::new("/dev/stdout").metadata(rt) {
+        if is_full(&about) {
+            let error = io::Error::from_raw_os_error(NO_SPACE);
+            return tell_error(rt, Shown::name("standard output"), &error);
+        }
+        if !about.file_type().is_fifo() && !about.file_type().is_socket() {
+            return tell(rt, Some(Advice::Text(DISK)));
+        }
     }
-    if about.file_type().is_fifo() || about.file_type().is_socket() {
-        return tell_either(rt);
-    }
-    eprintln!(rt; "no output is at fault by its name: a disk may be full")
-}
-
-fn tell_either<R: Eprint>(rt: &R) -> io::Result<()> {
-    eprintln!(rt; "no output is at fault by its name: a disk is full, or nobody reads the report")
+    tell(rt, Some(Advice::Text(DISK_OR_READER)))
 }
