@@ -37,7 +37,7 @@ RELEASED and SCHEDULE.
 
   PLAN      text that says what the threads are to do, one line each, read:
             `feed N`, `limit T M`, `take T F`, `lose log T N`, `lose out T N`,
-            `round`, `snap`, `store`, `crash`, `recover`, `settle`
+            `round`, `snap`, `store`, `crash`, `recover`, `show V`, `settle`
   SCRIPT    text of the events that happened, written
 ";
 

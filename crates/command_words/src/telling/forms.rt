@@ -98,7 +98,7 @@ static SCRIPT_LINES: [FormRow; 15] = [
     ("auto", "auto SEED N", "auto 7 100"),
 ];
 
-static PLAN_LINES: [FormRow; 10] = [
+static PLAN_LINES: [FormRow; 11] = [
     ("feed", "feed N", "feed 10"),
     ("limit", "limit T M", "limit 0 100"),
     ("take", "take T F", "take 0 10"),
@@ -108,6 +108,7 @@ static PLAN_LINES: [FormRow; 10] = [
     ("store", "the word alone", "store"),
     ("crash", "the word alone", "crash"),
     ("recover", "the word alone", "recover"),
+    ("show", "show V", "show 0"),
     ("settle", "the word alone", "settle"),
 ];
 
