@@ -17,3 +17,4 @@ pub mod OneLine
 pub mod SharedSets
 pub mod Runs
 pub mod Hands
+mod PackedMoves

@@ -6,3 +6,4 @@ pub mod Continue
 pub mod FromPlainText
 pub mod Line
 pub mod FromEntryOrder
+pub mod Packed

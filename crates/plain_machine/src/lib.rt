@@ -9,6 +9,7 @@ mod laws;
 mod line_laws;
 mod local;
 mod plain_move;
+mod schedule;
 
 pub use emission::Emission;
 pub use laws::{
@@ -19,5 +20,6 @@ pub use line_laws::{
     runs_are_kept,
 };
 pub use local::{Local, Move};
-pub use plain_move::{PlainMove, PlayCause, PlayFault, Schedule};
+pub use plain_move::{PlainMove, PlayCause, PlayFault};
 pub use plain_text::{Bytes, NoMemory, Text};
+pub use schedule::Schedule;

@@ -1,4 +1,3 @@
-use plain_text::Sequence;
 use thiserror::Error;
 
 /// One move of a thread, with what it was told where it was told something: a time in microseconds, or a word.
@@ -9,9 +8,6 @@ pub struct PlainMove {
     /// What it is told; `None` exactly where the program asks for nothing, in a legal move.
     pub answer: Option<u64>,
 }
-
-/// The moves of a run, in order.
-pub type Schedule = Sequence<PlainMove>;
 
 /// Why a move is none that the plain machine may make.
 #[derive(Clone, Copy, Debug, PartialEq, Eq, Error)]
