@@ -1,12 +1,12 @@
-ghost use Rattle.std.specs.Prelude.{◌≡◌, ◌++◌, ◌∷◌, [], IfOk, OnOk};
+ghost use Rattle.std.specs.Prelude.{◌≡◌, ◌++◌, ◌∷◌, [], All, IfOk, OnOk};
 ghost use Rattle.plain_text.specs.LineFiles.{text_of};
 ghost use Rattle.handover.specs.Images.{FitsLine, FitsImage, counts_of, image_text};
 ghost use Rattle.handover.specs.Images.{line_text, numbered};
 
 use crate::image::{Ended, Image};
 use crate::line::ImageLine;
-use plain_machine::PlainMove;
-use plain_player::Schedules;
+use plain_machine::Schedule;
+use plain_player::put_move;
 use plain_text::{Bytes, NoMemory, WrittenFile, put_lines, put_u64};
 use std::alloc::Global;
 
@@ -20,7 +20,7 @@ pub fn put_image(alloc: Global, image: &Image) -> Result<Bytes, NoMemory>
     text.extend(ended.as_slice())?;
     let released = put_lines::<ReleasedLines>(alloc, image.released.as_slice())?;
     text.extend(released.as_slice())?;
-    let moves = put_lines::<MoveLines>(alloc, image.past.as_slice())?;
+    let moves = put_moves(alloc, &image.past)?;
     text.extend(moves.as_slice())?;
     Ok(text)
 }
@@ -42,8 +42,22 @@ fn put_counts(alloc: Global, image: &Image) -> Result<Bytes, NoMemory>
     put_lines::<ImageLines>(alloc, &[ImageLine::Heading, counts])
 }
 
+/// The lines of moves.
+fn put_moves(alloc: Global, moves: &Schedule) -> Result<Bytes, NoMemory>
+    ensures text { IfOk result (λ text. text
+        ≡ text_of (λ plain. line_text (ImageLine.Move plain)) moves.now) }
+    ensures fits { OnOk result (All (λ plain. FitsLine (ImageLine.Move plain)) moves.now) }
+{
+    let mut text = Bytes::new(alloc);
+    for index in 0..moves.len() {
+        put_line(&mut text, ImageLine::Move(moves.at(index)))?;
+        text.push(b'\n')?;
+    }
+    Ok(text)
+}
+
 /// Appends a line, without its line feed.
-fn put_line(alloc: Global, text: &mut Bytes, line: ImageLine) -> Result<(), NoMemory>
+fn put_line(text: &mut Bytes, line: ImageLine) -> Result<(), NoMemory>
     ensures line { OnOk result (text.new ≡ text.old ++ line_text line) }
     ensures fits { OnOk result (FitsLine line) }
 {
@@ -76,7 +90,7 @@ fn put_line(alloc: Global, text: &mut Bytes, line: ImageLine) -> Result<(), NoMe
         }
         ImageLine::Move(plain) => {
             text.extend(b"move ")?;
-            Schedules::put_line(alloc, text, &plain)
+            put_move(text, plain)
         }
     }
 }
@@ -105,8 +119,8 @@ impl WrittenFile for ImageLines {
 
     ghost fits = { FitsLine };
 
-    fn put_line(alloc: Global, text: &mut Bytes, line: &ImageLine) -> Result<(), NoMemory> {
-        put_line(alloc, text, *line)
+    fn put_line(_alloc: Global, text: &mut Bytes, line: &ImageLine) -> Result<(), NoMemory> {
+        put_line(text, *line)
     }
 }
 
@@ -123,8 +137,8 @@ impl WrittenFile for EndedLines {
 
     ghost fits = { λ ended. FitsLine (variant.Ended ended) };
 
-    fn put_line(alloc: Global, text: &mut Bytes, ended: &Ended) -> Result<(), NoMemory> {
-        put_line(alloc, text, ImageLine::Ended(*ended))
+    fn put_line(_alloc: Global, text: &mut Bytes, ended: &Ended) -> Result<(), NoMemory> {
+        put_line(text, ImageLine::Ended(*ended))
     }
 }
 
@@ -140,26 +154,8 @@ impl WrittenFile for ReleasedLines {
 
     ghost fits = { λ output. FitsLine (released_line output) };
 
-    fn put_line(alloc: Global, text: &mut Bytes, output: &(u32, u64)) -> Result<(), NoMemory> {
+    fn put_line(_alloc: Global, text: &mut Bytes, output: &(u32, u64)) -> Result<(), NoMemory> {
         let (thread, number) = *output;
-        put_line(alloc, text, ImageLine::Released { thread, number })
-    }
-}
-
-/// The lines of moves.
-struct MoveLines;
-
-impl WrittenFile for MoveLines {
-    ghost use Rattle.handover.specs.declared.line.ImageLine.TheVariants as variant;
-    ghost use Rattle.handover.specs.Images.{FitsLine, line_text};
-
-    type Thing = PlainMove;
-
-    ghost line = { λ plain. line_text (variant.Move plain) };
-
-    ghost fits = { λ plain. FitsLine (variant.Move plain) };
-
-    fn put_line(alloc: Global, text: &mut Bytes, plain: &PlainMove) -> Result<(), NoMemory> {
-        put_line(alloc, text, ImageLine::Move(*plain))
+        put_line(text, ImageLine::Released { thread, number })
     }
 }

@@ -7,7 +7,7 @@ use crate::next::next_of;
 use crate::{Made, MadeMoves};
 use box_program::Program;
 use input_logger::InputLog;
-use plain_machine::PlainMove;
+use plain_machine::Schedule;
 use plain_player::{MoveError, Player};
 use plain_text::NoMemory;
 use std::alloc::Global;
@@ -30,20 +30,21 @@ pub fn made_moves<P: Program>(
     alloc: Global,
     program: &P,
     inputs: &InputLog,
-    moves: &[PlainMove],
+    moves: &Schedule,
 ) -> Result<MadeMoves, NoMemory>
     ensures { IfOk result (λ made. made ≡ made_where
         (play (P.meaning program.now) (inputs_of inputs.now) inputs.now.threads moves.now)) }
 {
     let mut player = Player::fresh(alloc, program, inputs.threads())?;
     let mut made = MadeMoves::new(alloc);
-    for (index, plain) in moves.iter().enumerate() {
+    for index in 0..moves.len() {
+        let plain = moves.at(index);
         let thread = plain.thread;
         let next = player.next_input(thread);
         let input = inputs.input(thread, next);
         let place = player.place(thread);
         let did = next_of(program, made.as_slice(), thread, next, plain.answer, place);
-        let _sent = match player.step(alloc, program, *plain, input) {
+        let _sent = match player.step(alloc, program, plain, input) {
             Ok(sent) => sent,
             Err(error) => return none_of(alloc, error),
         };

@@ -1,5 +1,5 @@
 //! A schedule in 8 bytes a move. Few moves are told something, so what they are told stands apart.
-ghost use Rattle.std.specs.Prelude.{◌≡◌, ◌<◌, ◌++◌, ◌∷◌, [], Ok, IfOk, OnOk, OnErr, length, slice_index_or};
+ghost use Rattle.std.specs.Prelude.{◌≡◌, ◌<◌, ◌++◌, ◌∷◌, [], IfOk, OnOk, OnErr, length, slice_index_or};
 ghost use Rattle.std.specs.Prelude.{take};
 ghost use Rattle.plain_machine.specs.declared.plain_move.PlainMove.{PlainMove};
 ghost use Rattle.plain_machine.specs.Packed.{IsPut, answer_at, answers_before};

@@ -1,13 +1,16 @@
 -- What was written is read back: a text of the lines of moves is their schedule.
 use Rattle.std.proofs.Common.{◌≡◌, ℕ, ◌-◌, ◌^◌, ◌<◌, ◌==◌, arith, List, [], ◌∷◌, ◌++◌, length, refl, Option, Some, None}
-use Rattle.std.proofs.Common.{false, ap, append-nil, sym, subst, ◌∙◌, ◌+◌, ◌≤◌}
-use Rattle.std.specs.Prelude.{codes, decimal, not, slice_index}
+use Rattle.std.proofs.Common.{false, ap, append_assoc, append-nil, get_or, sym, subst, take, ◌∙◌, ◌+◌, ◌≤◌}
+use Rattle.std.specs.Prelude.{All, codes, decimal, not, slice_index}
+use Rattle.std.proofs.lemmas.List.{flat_map_more, take_more}
+use Rattle.std.proofs.lemmas.List.Elements.{All-more}
 use Rattle.std.specs.Str.Parse.{AllDigits}
 use Rattle.std.proofs.lemmas.Bool.Decides.{nat_tests}
 use Rattle.std.proofs.lemmas.Fmt.{decimal_is_IsNumeral, decimal_digit}
 use Rattle.std.proofs.lemmas.Str.Parse.{digit_from_value}
 use Rattle.plain_text.proofs.WrittenFiles as files
 use Rattle.plain_text.proofs.WrittenFiles.{IsSpelled}
+use Rattle.plain_text.specs.LineFiles.{text_of}
 use Rattle.plain_text.specs.Lines.{words_of}
 use Rattle.plain_text.proofs.WrittenWords.{spaced, AreWords, above_test, decimal_word, decimal_number, words_of_spaced}
 use Rattle.plain_machine.specs.declared.plain_move.PlainMove.{PlainMove}
@@ -93,3 +96,21 @@ one_digit_says line d is low high =
 -- a number of one digit
 pub digit_text : (n : ℕ) → n < 10 → decimal n ≡ (48 + n) ∷ []
 digit_text n small = decimal_digit n small
+
+-- the lines of the first moves, and one more
+pub line_more : (line : PlainMove → List ℕ) (moves : List PlainMove) (i : ℕ) (plain : PlainMove) (before put after : List ℕ)
+    → i < length moves → ((other : PlainMove) → plain ≡ get_or moves i other) → before ≡ text_of line (take i moves)
+    → put ≡ before ++ line plain → after ≡ put ++ codes "\n" → after ≡ text_of line (take (i + 1) moves)
+line_more line moves i plain before put after within is so_far put_is ends =
+    let fed : PlainMove → List ℕ = λ plain. line plain ++ codes "\n" in
+    ends ∙ ap (λ t. t ++ codes "\n") put_is ∙ append_assoc before (line plain) (codes "\n")
+    ∙ ap (λ t. t ++ fed plain) so_far ∙ flat_map_more fed [] (take i moves) plain
+    ∙ ap (λ p. text_of line (take i moves ++ p ∷ [])) (is plain)
+    ∙ ap (text_of line) (sym (take_more moves i plain within))
+
+-- and they fit, with it
+pub fits_more : (fits : PlainMove → Type 0) (moves : List PlainMove) (i : ℕ) (plain : PlainMove) → i < length moves
+    → ((other : PlainMove) → plain ≡ get_or moves i other) → All fits (take i moves) → fits plain
+    → All fits (take (i + 1) moves)
+fits_more fits moves i plain within is so_far fit =
+    All-more fits moves i plain within so_far (subst fits (is plain) fit)

@@ -9,8 +9,8 @@ ghost use Rattle.plain_player.specs.Schedules.{SaysMove, move_fault};
 
 use plain_machine::{PlainMove, Schedule};
 use plain_text::{
-    Bytes, LineCause, LineFile, MOST_EVENTS, NoMemory, ReadError, WordIter, WrittenFile, put_lines,
-    put_u64, read_lines, read_u64, words,
+    Bytes, LineCause, LineFault, MOST_EVENTS, NoMemory, ReadError, WordIter, lines, put_u64,
+    read_u64, words,
 };
 use std::alloc::Global;
 
@@ -25,26 +25,23 @@ pub fn read_schedule(alloc: Global, text: &[u8]) -> Result<Schedule, ReadError>
     ensures few { IfOk result (λ moves. length moves ≤ most_lines) }
     ensures refused { IfErr result (IsRefused text.now) }
 {
-    read_lines::<Schedules>(alloc, text, u64::from(MOST_EVENTS))
-}
-
-/// Schedules as files of lines.
-pub struct Schedules;
-
-impl LineFile for Schedules {
-    ghost use Rattle.plain_player.specs.Schedules.{schedule_form};
-
-    type Thing = PlainMove;
-
-    ghost form = { schedule_form };
-
-    fn read_line(line: &[u8]) -> Result<PlainMove, LineCause> {
-        read_move(line)
+    let mut moves = Schedule::new(alloc);
+    let mut room = MOST_EVENTS;
+    for line in lines(text) {
+        let plain = match read_move(line.bytes) {
+            Ok(plain) => plain,
+            Err(cause) => {
+                let line = line.number;
+                return Err(ReadError::Fault(LineFault { line, cause }));
+            }
+        };
+        if room == 0 {
+            return Err(ReadError::TooMany);
+        }
+        room -= 1;
+        moves.push(plain)?;
     }
-
-    fn weight(_plain: &PlainMove) -> u64 {
-        1
-    }
+    Ok(moves)
 }
 
 /// The move that a line says, or its fault.
@@ -110,26 +107,16 @@ pub fn put_schedule(alloc: Global, schedule: &Schedule) -> Result<Bytes, NoMemor
     ensures text { IfOk result (λ text. text ≡ schedule_text schedule.now) }
     ensures fit_lines { OnOk result (FitLines schedule.now) }
 {
-    put_lines::<Schedules>(alloc, schedule.as_slice())
-}
-
-impl WrittenFile for Schedules {
-    ghost use Rattle.plain_player.specs.ScheduleText.{move_line};
-    ghost use Rattle.plain_player.specs.Schedules.{FitsLine};
-
-    type Thing = PlainMove;
-
-    ghost line = { move_line };
-
-    ghost fits = { FitsLine };
-
-    fn put_line(_alloc: Global, text: &mut Bytes, plain: &PlainMove) -> Result<(), NoMemory> {
-        put_move(text, *plain)
+    let mut text = Bytes::new(alloc);
+    for index in 0..schedule.len() {
+        put_move(&mut text, schedule.at(index))?;
+        text.push(b'\n')?;
     }
+    Ok(text)
 }
 
 /// Appends the line of a move, without a line feed.
-fn put_move(text: &mut Bytes, plain: PlainMove) -> Result<(), NoMemory>
+pub fn put_move(text: &mut Bytes, plain: PlainMove) -> Result<(), NoMemory>
     ensures text { OnOk result (text.new ≡ text.old ++ move_line plain) }
     ensures fits { OnOk result (FitsLine plain) }
 {

@@ -55,9 +55,10 @@ pub fn play<P: Program>(
 {
     let mut player = Player::fresh(alloc, program, inputs.threads())?;
     let mut emissions = Emissions::new(alloc);
-    for (index, plain) in schedule.as_slice().iter().enumerate() {
+    for index in 0..schedule.len() {
+        let plain = schedule.at(index);
         let input = inputs.input(plain.thread, player.next_input(plain.thread));
-        let sent = match player.step(alloc, program, *plain, input) {
+        let sent = match player.step(alloc, program, plain, input) {
             Ok(sent) => sent,
             Err(error) => return Err(fault_of(index as u64 + 1, error)),
         };

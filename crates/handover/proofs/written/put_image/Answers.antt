@@ -1,7 +1,6 @@
 use Rattle.std.proofs.Common.{◌++◌, ℕ, List, ap, ◌∙◌, subst}
 use Rattle.std.specs.Prelude.{All}
 use Rattle.plain_text.specs.LineFiles.{text_of}
-use Rattle.plain_machine.specs.declared.plain_move.PlainMove.{PlainMove}
 use Rattle.handover.specs.declared.image.Ended.{Ended}
 use Rattle.handover.specs.declared.line.ImageLine.TheVariants as line
 use Rattle.handover.specs.Images.{FitsLine, line_text, released_line}
@@ -18,13 +17,12 @@ returns-clause-text c =
     (c.in_ok-released.ensures.text
     ∙ ap (λ (rs : List (ℕ × ℕ)). text_of (λ (r : ℕ × ℕ). line_text (released_line r)) rs) c.as_slice-3.ensures)
     (c.in_ok-extend-2.ensures.ok ∙ ap (λ (t : List ℕ). c.extend.new.self ++ t) c.as_slice-4.ensures)
-    (c.in_ok-moves.ensures.text
-    ∙ ap (λ (ms : List PlainMove). text_of (λ (m : PlainMove). line_text (line.Move m)) ms) c.as_slice-5.ensures)
-    (c.in_ok-extend-3.ensures.ok ∙ ap (λ (t : List ℕ). c.extend-2.new.self ++ t) c.as_slice-6.ensures)
+    c.in_ok-moves.ensures.text
+    (c.in_ok-extend-3.ensures.ok ∙ ap (λ (t : List ℕ). c.extend-2.new.self ++ t) c.as_slice-5.ensures)
 
 pub returns-clause-fits : goal.returns-clause-fits
 returns-clause-fits c =
     all_fit c.args.image.now c.in_ok-text.ensures.fits
     (subst (All (λ (e : Ended). FitsLine (line.Ended e))) c.as_slice.ensures c.in_ok-ended.ensures.fits)
     (subst (All (λ (r : ℕ × ℕ). FitsLine (released_line r))) c.as_slice-3.ensures c.in_ok-released.ensures.fits)
-    (subst (All (λ (m : PlainMove). FitsLine (line.Move m))) c.as_slice-5.ensures c.in_ok-moves.ensures.fits)
+    c.in_ok-moves.ensures.fits

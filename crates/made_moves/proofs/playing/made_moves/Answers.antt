@@ -1,6 +1,5 @@
-use Rattle.std.proofs.Common.{rules, ◌≡◌, ◌∙◌, List, ℕ, Option, None, ap, refl, arith, length, length-append}
+use Rattle.std.proofs.Common.{rules, ◌≡◌, ◌∙◌, List, ℕ, Option, None, ap, arith, length, length-append}
 use Rattle.std.proofs.Common.{Ok, Err}
-use Rattle.std.specs.Prelude.{slice_index_or}
 use Rattle.input_logger.specs.Inputs.{input_at}
 use Rattle.plain_machine.specs.declared.local.Local.{Local}
 use Rattle.plain_machine.specs.declared.plain_move.PlainMove.{PlainMove}
@@ -31,8 +30,9 @@ returns-in-Err g c =
     let m = g.P.Program.meaning c.args.program.now in
     let fed = c.args.inputs.now in
     let bad : c.step.result ≡ Err c.in-Err.error = search rules in
-    none_there m fed c.args.moves.now c.loop-index.index c.loop-index-test.true
-    (slice_index_or c.args.moves.now c.loop-index.index none_move) none_move refl c.loop-index.player c.step.new.self
+    none_there m fed c.args.moves.now c.loop-index.index
+    (omega (arith, c.loop-index-test.true, c.len-index-end.ensures)) c.at-plain.result none_move
+    (c.at-plain.ensures none_move) c.loop-index.player c.step.new.self
     c.loop-index.made c.loop-index.invariant.so_far c.step.result
     (λ inputs threads steps stands given. c.step.ensures.follows inputs threads steps stands
     ((c.input-input.ensures ∙ ap (input_at fed _) c.next_input-next.ensures) ∙ given)) c.in-Err.error bad
@@ -42,7 +42,7 @@ pub loop-index-preserved : goal.loop-index-preserved
 loop-index-preserved g c =
     let m = g.P.Program.meaning c.args.program.now in
     let fed = c.args.inputs.now in
-    let plain = slice_index_or c.args.moves.now c.loop-index.index none_move in
+    let plain = c.at-plain.result in
     let good : c.step.result ≡ Ok c.in-Ok.sent = search rules in
     let p = c.loop-index.player in
     let does : c.next_of-did.result
@@ -59,7 +59,8 @@ loop-index-preserved g c =
       fits = search rules;
       moves = search rules;
       as_many = let grows = ap length c.in_ok-push.ensures.ok in grind (arith, length-append);
-      so_far = noted_more m fed c.args.moves.now c.loop-index.index c.loop-index-test.true plain none_move refl p
+      so_far = noted_more m fed c.args.moves.now c.loop-index.index
+          (omega (arith, c.loop-index-test.true, c.len-index-end.ensures)) plain none_move (c.at-plain.ensures none_move) p
           c.step.new.self c.loop-index.made c.loop-index.invariant.so_far c.step.result
           (λ inputs threads steps stands given. c.step.ensures.follows inputs threads steps stands
           ((c.input-input.ensures ∙ ap (input_at fed _) c.next_input-next.ensures) ∙ given)) c.in-Ok.sent

@@ -1,23 +1,35 @@
-use Rattle.std.proofs.Common.{rules, ◌≤◌, ℕ, List, length, refl, subst, IfOk, Result, Ok, Err}
-use Rattle.plain_text.specs.declared.fault.ReadError.{ReadError}
+use Rattle.std.proofs.Common.{rules, ◌≡◌, ◌∷◌, ◌++◌, [], arith, refl}
 use Rattle.plain_text.specs.declared.limit.TheConstants.{MOST_EVENTS}
-use Rattle.plain_text.specs.LineFiles.{count_of}
-use Rattle.plain_text.proofs.WholeFiles.{count_is_length}
-use Rattle.plain_machine.specs.declared.plain_move.PlainMove.{PlainMove}
+use Rattle.plain_text.proofs.WholeFiles.{count_is_length, faulty, more, passes}
 use Rattle.plain_player.specs.Schedules.{schedule_form}
 use Rattle.plain_player.proofs.OneMove.{moves_are_decisive}
 use Rattle.plain_player.proofs.schedule.read_schedule.Goals as goal
 
+pub returns-in-Err-clause-refused : goal.returns-in-Err-clause-refused
+returns-in-Err-clause-refused c =
+    faulty schedule_form moves_are_decisive MOST_EVENTS c.args.text.now c.loop-line.moves c.loop-line.room
+    c.in-Some.line.number c.in-Some.line.bytes.now c.loop-line.line-iterator c.next.new.self c.in-Err.cause
+    c.loop-line.invariant.begins c.loop-line.invariant.room (search rules) c.in-Err.ensures.fault
+
+pub returns-then-room-eq0-clause-refused : goal.returns-then-room-eq0-clause-refused
+returns-then-room-eq0-clause-refused c =
+    passes schedule_form MOST_EVENTS c.args.text.now c.loop-line.moves c.loop-line.room c.in-Some.line.number
+    c.in-Some.line.bytes.now c.loop-line.line-iterator c.next.new.self c.in-Ok.plain c.loop-line.invariant.begins
+    c.loop-line.invariant.room (search rules) c.in-Ok.ensures.says (omega (arith, c.if-room-eq0.true))
+
+pub loop-line-preserved : goal.loop-line-preserved
+loop-line-preserved c =
+    let longer = more schedule_form c.args.text.now c.loop-line.moves c.push.new.self c.in-Some.line.number
+    c.in-Some.line.bytes.now c.loop-line.line-iterator c.next.new.self c.in-Ok.plain c.loop-line.invariant.begins
+    (search rules) c.in-Ok.ensures.says c.in_ok-push.ensures.ok in
+    let count = longer.1 in
+    record {
+      begins = longer.0;
+      room = omega (arith, count, c.if-room-eq0.false, c.loop-line.invariant.room);
+    }
+
 -- each move counts as one
-by_length : (r : Result (List PlainMove) ReadError) → IfOk r (λ moves. count_of schedule_form moves ≤ MOST_EVENTS)
-    → IfOk r (λ moves. length moves ≤ MOST_EVENTS)
-by_length (Ok moves) few = subst (λ (n : ℕ). n ≤ MOST_EVENTS) (count_is_length schedule_form (λ plain. refl) moves) few
-by_length (Err error) few = tt
-
-pub read_lines-requires : goal.read_lines-requires
-read_lines-requires c = record { decisive = moves_are_decisive }
-
 pub returns-clause-few : goal.returns-clause-few
 returns-clause-few c =
-    let few : IfOk c.read_lines.result (λ moves. count_of schedule_form moves ≤ MOST_EVENTS) = search rules in
-    by_length c.read_lines.result few
+    let long = count_is_length schedule_form (λ plain. refl) c.loop-line.moves in
+    omega (arith, long, c.loop-line.invariant.room)

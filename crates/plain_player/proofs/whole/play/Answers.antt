@@ -1,5 +1,4 @@
-use Rattle.std.proofs.Common.{rules, ◌≡◌, ◌+◌, ◌<◌, ◌∙◌, arith, ap, sym, subst, length, None, Ok, Err}
-use Rattle.std.specs.Prelude.{slice_index_or}
+use Rattle.std.proofs.Common.{rules, ◌≡◌, ◌+◌, ◌∙◌, arith, ap, sym, subst, None, Ok, Err}
 use Rattle.input_logger.specs.Inputs.{input_at}
 use Rattle.plain_machine.specs.declared.plain_move.PlainMove.{PlainMove}
 use Rattle.plain_player.specs.Playing.{next_input}
@@ -24,13 +23,9 @@ pub returns-in-Err : goal.returns-in-Err
 returns-in-Err g c =
     let m = g.P.Program.meaning c.args.program.now in
     let fed = c.args.inputs.now in
-    let items : c.as_slice-plain-items.result.now ≡ c.args.schedule.now = c.as_slice-plain-items.ensures in
-    let less : c.loop-index.index < length c.args.schedule.now =
-    let e = ap length items in omega (arith, c.loop-index-test.true) in
     let bad : c.step.result ≡ Err c.in-Err.error = search rules in
-    rw c.fault_of.ensures (not_made m fed c.args.schedule.now c.loop-index.index less
-    (slice_index_or c.as_slice-plain-items.result.now c.loop-index.index none_move) none_move
-    (ap (λ l. slice_index_or l c.loop-index.index none_move) items) c.loop-index.player c.step.new.self
+    rw c.fault_of.ensures (not_made m fed c.args.schedule.now c.loop-index.index
+    (omega (arith, c.loop-index-test.true, c.len-index-end.ensures)) c.at-plain.result none_move (c.at-plain.ensures none_move) c.loop-index.player c.step.new.self
     c.loop-index.emissions c.loop-index.invariant.so_far c.step.result
     (λ inputs threads steps stands given. c.step.ensures.follows inputs threads steps stands
     ((c.input-input.ensures ∙ ap (input_at fed _) c.next_input.ensures) ∙ given)) c.in-Err.error bad)
@@ -39,13 +34,9 @@ pub loop-index-preserved : goal.loop-index-preserved
 loop-index-preserved g c =
     let m = g.P.Program.meaning c.args.program.now in
     let fed = c.args.inputs.now in
-    let items : c.as_slice-plain-items.result.now ≡ c.args.schedule.now = c.as_slice-plain-items.ensures in
-    let less : c.loop-index.index < length c.args.schedule.now =
-    let e = ap length items in omega (arith, c.loop-index-test.true) in
     let good : c.step.result ≡ Ok c.in-Ok.sent = search rules in
-    let more = made_more m fed c.args.schedule.now c.loop-index.index less
-    (slice_index_or c.as_slice-plain-items.result.now c.loop-index.index none_move) none_move
-    (ap (λ l. slice_index_or l c.loop-index.index none_move) items) c.loop-index.player c.step.new.self
+    let more = made_more m fed c.args.schedule.now c.loop-index.index
+    (omega (arith, c.loop-index-test.true, c.len-index-end.ensures)) c.at-plain.result none_move (c.at-plain.ensures none_move) c.loop-index.player c.step.new.self
     c.loop-index.emissions c.loop-index.invariant.so_far c.step.result
     (λ inputs threads steps stands given. c.step.ensures.follows inputs threads steps stands
     ((c.input-input.ensures ∙ ap (input_at fed _) c.next_input.ensures) ∙ given)) c.in-Ok.sent good in
