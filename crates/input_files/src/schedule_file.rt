@@ -1,16 +1,19 @@
-ghost use Rattle.std.specs.Prelude.{◌<◌, ◌-◌, ◌^◌, ◌∷◌, [], OnOk, IsErrOf};
+ghost use Rattle.std.specs.Prelude.{◌<◌, ◌-◌, ◌^◌, ◌∷◌, [], OnOk, IsErrOf, List, ℕ};
+ghost use Rattle.plain_player.specs.Schedules.{schedule_form};
 ghost use Rattle.world_io.specs.Stream.{Rose};
 ghost use Rattle.world_io.specs.World.{Start};
+ghost use Rattle.input_files.specs.Answers.{SaysFile, SaysLines};
 ghost use Rattle.input_files.specs.Files.{KeepsOutputs, OnlyReads, OpensAll};
 ghost use Rattle.input_files.specs.Judging.{JudgesSchedule};
+ghost use Rattle.input_files.specs.Texts.{IsFrontOf};
 
 use crate::InputError;
-use crate::lines_file::read_lines_file;
+use crate::texts::{read_front_of, whole_lines};
 use plain_machine::Schedule;
-use plain_player::Schedules;
-use plain_text::{LineFault, Text};
+use plain_player::read_schedule;
+use plain_text::{Limit, LineFault, ReadError, Text};
 use std::alloc::Global;
-use world_io::World;
+use world_io::{Front, World};
 
 /// Reads and judges a schedule as text; whether its moves are legal is not judged here.
 ///
@@ -33,5 +36,33 @@ pub fn read_schedule_file<W: World>(
         → KeepsOutputs (W.shows p world.old) (W.shows p world.new) }
     ensures before { (p : Start) → W.honest p world.new → W.honest p world.old }
 {
-    read_lines_file::<W, Schedules>(alloc, world, name)
+    let front = read_front_of(alloc, world, name)?;
+    judge_front(alloc, &front)
+}
+
+/// Judges the file of which this was read.
+fn judge_front(alloc: Global, front: &Front) -> Result<Schedule, InputError<LineFault>>
+    ensures says { (bytes : List ℕ) → IsFrontOf front.now bytes
+        → SaysFile schedule_form bytes result }
+    ensures quiet { ¬ IsErrOf result InputError.ReadFault }
+{
+    match front {
+        Front::All(bytes) => judge_lines(alloc, bytes.as_slice()),
+        Front::More(bytes) => match judge_lines(alloc, whole_lines(bytes.as_slice())) {
+            Ok(_moves) => Err(InputError::TooLarge(Limit::File)),
+            Err(error) => Err(error),
+        },
+    }
+}
+
+/// Judges lines by themselves.
+fn judge_lines(alloc: Global, text: &[u8]) -> Result<Schedule, InputError<LineFault>>
+    ensures says { SaysLines schedule_form text.now result }
+{
+    match read_schedule(alloc, text) {
+        Ok(moves) => Ok(moves),
+        Err(ReadError::Fault(fault)) => Err(InputError::Fault(fault)),
+        Err(ReadError::TooMany) => Err(InputError::TooLarge(Limit::Events)),
+        Err(ReadError::NoMemory) => Err(InputError::NoMemory),
+    }
 }
