@@ -199,7 +199,6 @@ behind_known m inputs moves kept few made known slice is (Ok rest) h =
     (h ∙ ap (λ (l : List Made). drop kept l) is)
 behind_known m inputs moves kept few made known slice is (Err e) h = tt
 
-pub long_so : {V : Type 0} (w : SystemWorld V) (moves slice : List PlainMove) (many : ℕ) → many ≡ length slice
-    → slice ≡ moves → moves ≡ moves_made w.past → many ≡ length w.past
-long_so w moves slice many is one two =
-    is ∙ (ap (λ (l : List PlainMove). length l) (one ∙ two) ∙ moves_long w.past)
+pub long_so : {V : Type 0} (w : SystemWorld V) (moves : List PlainMove) (many : ℕ) → many ≡ length moves
+    → moves ≡ moves_made w.past → many ≡ length w.past
+long_so w moves many is same = is ∙ (ap (λ (l : List PlainMove). length l) same ∙ moves_long w.past)

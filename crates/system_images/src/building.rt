@@ -59,8 +59,8 @@ pub fn make_moves<P: Program>(core: &mut Core<P>, moves: &Schedule) -> Result<()
     ensures { OnOk result (MovesOn (P.meaning core.old.program) (MakesAll moves.now)
         core.old core.new) }
 {
-    for plain in moves.as_slice() {
-        make_one(core, *plain)?;
+    for index in 0..moves.len() {
+        make_one(core, moves.at(index))?;
     }
     Ok(())
 }

@@ -68,8 +68,8 @@ fn copy_moves(alloc: Global, moves: &Schedule) -> Result<Schedule, NoMemory>
     ensures { IfOk result (λ copy. copy ≡ moves.now) }
 {
     let mut copy = Schedule::new(alloc);
-    for plain in moves.as_slice() {
-        copy.push(*plain)?;
+    for index in 0..moves.len() {
+        copy.push(moves.at(index))?;
     }
     Ok(copy)
 }

@@ -73,9 +73,10 @@ fn play_far<P: Program>(
 {
     let mut player = Player::fresh(alloc, program, inputs.threads())?;
     let mut bytes: u64 = 0;
-    for (index, plain) in moves.as_slice().iter().enumerate() {
+    for index in 0..moves.len() {
+        let plain = moves.at(index);
         let input = inputs.input(plain.thread, player.next_input(plain.thread));
-        let sent = match player.step(alloc, program, *plain, input) {
+        let sent = match player.step(alloc, program, plain, input) {
             Ok(sent) => sent,
             Err(error) => return far_at(index as u64 + 1, bytes, error),
         };

@@ -10,7 +10,7 @@ ghost use Rattle.noted_runs.specs.Noting.{AreInputs, made_at, threads_of};
 use box_program::Program;
 use input_logger::InputLog;
 use made_moves::{Made, MadeMoves, made_moves};
-use plain_machine::PlainMove;
+use plain_machine::Schedule;
 use plain_text::{Bytes, NoMemory};
 use recovery_core::{Reply, System, put_line};
 use recovery_world::{Event, Outcome};
@@ -57,7 +57,7 @@ fn made_all<P: Program>(
     alloc: Global,
     program: &P,
     inputs: &InputLog,
-    moves: &[PlainMove],
+    moves: &Schedule,
 ) -> Result<MadeMoves, NoMemory>
     ensures { IfOk result (λ made. (s : Setting P.Value) (w : World P.Value)
         → AreInputs (P.meaning program.now) inputs.now s → Sound s w
@@ -71,14 +71,15 @@ fn made_behind<P: Program>(
     alloc: Global,
     program: &P,
     inputs: &InputLog,
-    moves: &[PlainMove],
+    moves: &Schedule,
     kept: usize,
 ) -> Result<MadeMoves, NoMemory>
     ensures { IfOk result (λ made. (s : Setting P.Value) (w : World P.Value)
         → AreInputs (P.meaning program.now) inputs.now s → Sound s w
         → moves.now ≡ moves_made w.past → made ≡ made_at kept w) }
 {
-    if moves.len() > MOST_NOTED || kept >= moves.len() {
+    let many = moves.len();
+    if many > MOST_NOTED || kept >= many {
         return Ok(MadeMoves::new(alloc));
     }
     let made = made_all(alloc, program, inputs, moves)?;
@@ -86,13 +87,13 @@ fn made_behind<P: Program>(
 }
 
 /// Who made the moves behind the first of them.
-fn movers_of(alloc: Global, moves: &[PlainMove], first: usize) -> Result<Movers, NoMemory>
+fn movers_of(alloc: Global, moves: &Schedule, first: usize) -> Result<Movers, NoMemory>
     ensures { IfOk result (λ movers. movers ≡ threads_of (drop first moves.now)) }
 {
     let from = first.min(moves.len());
     let mut movers = Movers::new(alloc);
-    for plain in &moves[from..] {
-        movers.push(plain.thread)?;
+    for index in from..moves.len() {
+        movers.push(moves.at(index).thread)?;
     }
     Ok(movers)
 }
@@ -114,7 +115,7 @@ pub fn note_event<P: Program>(
         → note ≡ note_of event.now reply.outcome freed w) }
 {
     let line = line_of(alloc, event, &reply)?;
-    let moves = system.moves().as_slice();
+    let moves = system.moves();
     let many = moves.len() as u64;
     let kept = many.saturating_sub(count_moves(&reply.outcome));
     let made = made_behind(alloc, program, inputs, moves, kept as usize)?;

@@ -146,10 +146,11 @@ pub fn follow_schedule<P: Program>(
 {
     let mut player = Player::fresh(alloc, program, inputs.threads())?;
     let mut lists = no_inputs(alloc, inputs.threads())?;
-    for (index, plain) in schedule.as_slice().iter().enumerate() {
+    for index in 0..schedule.len() {
+        let plain = schedule.at(index);
         let before = player.place(plain.thread);
         let input = inputs.input(plain.thread, player.next_input(plain.thread));
-        let Ok(sent) = player.step(alloc, program, *plain, input) else {
+        let Ok(sent) = player.step(alloc, program, plain, input) else {
             return Err(NoMemory);
         };
         let made = made_by(register, before, sent, player.place(plain.thread));

@@ -4,5 +4,5 @@ use Rattle.system_images.proofs.BuildingLemmas.{MovedTo}
 use Rattle.system_images.proofs.building.make_moves.Given as goal
 
 -- the first moves are made
-abbrev pub invariant-loop-plain : goal.invariant-loop-plain
-invariant-loop-plain g l = MovedTo g.P.Program.meaning (MakesAll (take l.plain-index l.moves)) l.fn.core l.core
+abbrev pub invariant-loop-index : goal.invariant-loop-index
+invariant-loop-index g l = MovedTo g.P.Program.meaning (MakesAll (take l.index l.moves)) l.fn.core l.core

@@ -1,5 +1,5 @@
 use Rattle.std.proofs.Common.{rules, ◌≡◌, ◌+◌, ◌<◌, ◌≤◌, ◌∙◌, arith, ap, sym, subst, length, None, Ok, Err}
-use Rattle.std.specs.Prelude.{◌^◌, ◌-◌, [], min, slice_index_or}
+use Rattle.std.specs.Prelude.{◌^◌, ◌-◌, [], min}
 use Rattle.plain_player.specs.Playing.{Stands as StandsPlayer}
 use Rattle.std.proofs.lemmas.Result.{IfOk-weaker}
 use Rattle.input_logger.specs.Inputs.{input_at}
@@ -35,14 +35,13 @@ pub returns-in-Err : goal.returns-in-Err
 returns-in-Err g c =
     let m = g.P.Program.meaning c.args.program.now in
     let fed = c.args.inputs.now in
-    let items : c.as_slice-plain-items.result.now ≡ c.args.moves.now = c.as_slice-plain-items.ensures in
     let less : c.loop-index.index < length c.args.moves.now =
-    let e = ap length items in omega (arith, c.loop-index-test.true) in
+    omega (arith, c.loop-index-test.true, c.len-index-end.ensures) in
     let bad : c.step.result ≡ Err c.in-Err.error = search rules in
     IfOk-weaker c.far_at.result _ _
     (λ far at. far_stops m fed c.args.moves.now c.loop-index.index less
-    (slice_index_or c.as_slice-plain-items.result.now c.loop-index.index none_move) none_move
-    (ap (λ l. slice_index_or l c.loop-index.index none_move) items) c.loop-index.player c.step.new.self
+    c.at-plain.result none_move
+    (c.at-plain.ensures none_move) c.loop-index.player c.step.new.self
     c.loop-index.bytes c.loop-index.invariant.far c.step.result
     (λ inputs threads steps stands given. c.step.ensures.follows inputs threads steps stands
     ((c.input-input.ensures ∙ ap (input_at fed _) c.next_input.ensures) ∙ given)) c.in-Err.error bad far at)
@@ -52,16 +51,15 @@ pub loop-index-preserved : goal.loop-index-preserved
 loop-index-preserved g c =
     let m = g.P.Program.meaning c.args.program.now in
     let fed = c.args.inputs.now in
-    let items : c.as_slice-plain-items.result.now ≡ c.args.moves.now = c.as_slice-plain-items.ensures in
     let less : c.loop-index.index < length c.args.moves.now =
-    let e = ap length items in omega (arith, c.loop-index-test.true) in
+    omega (arith, c.loop-index-test.true, c.len-index-end.ensures) in
     let good : c.step.result ≡ Ok c.in-Ok.sent = search rules in
     record {
       fits = search rules;
       made = search rules;
       far = far_more m fed c.args.moves.now c.loop-index.index less
-          (slice_index_or c.as_slice-plain-items.result.now c.loop-index.index none_move) none_move
-          (ap (λ l. slice_index_or l c.loop-index.index none_move) items) c.loop-index.player c.step.new.self
+          c.at-plain.result none_move
+          (c.at-plain.ensures none_move) c.loop-index.player c.step.new.self
           c.loop-index.bytes c.loop-index.invariant.far c.step.result
           (λ inputs threads steps stands given. c.step.ensures.follows inputs threads steps stands
           ((c.input-input.ensures ∙ ap (input_at fed _) c.next_input.ensures) ∙ given)) c.in-Ok.sent good _
@@ -70,7 +68,7 @@ loop-index-preserved g c =
 
 pub returns : goal.returns
 returns g c =
-    let long = ap length c.as_slice-plain-items.ensures in
+    let long = c.len-index-end.ensures in
     let high = c.loop-index-test.false in
     far_all (g.P.Program.meaning c.args.program.now) c.args.inputs.now c.args.moves.now c.loop-index.index
     c.loop-index.player c.loop-index.bytes (omega (arith, high, long)) c.loop-index.invariant.far

@@ -40,16 +40,15 @@ pub loop-index-preserved : goal.loop-index-preserved
 loop-index-preserved g c =
     let m = g.P.Program.meaning c.args.program.now in
     let fed = c.args.inputs.now in
-    let items : c.as_slice-plain-items.result.now ≡ c.args.schedule.now = c.as_slice-plain-items.ensures in
     let less : c.loop-index.index < length c.args.schedule.now =
-    let e = ap length items in omega (arith, c.loop-index-test.true) in
+    omega (arith, c.loop-index-test.true, c.len-index-end.ensures) in
     let good : c.step.result ≡ Ok c.in-Ok.sent = search rules in
-    let move = slice_index_or c.as_slice-plain-items.result.now c.loop-index.index none_move in
+    let move = c.at-plain.result in
     record {
       fits = search rules;
       made = search rules;
       followed = followed_on c.args.register m fed c.args.schedule.now c.loop-index.index less move none_move
-          (ap (λ l. slice_index_or l c.loop-index.index none_move) items) c.loop-index.player c.step.new.self
+          (c.at-plain.ensures none_move) c.loop-index.player c.step.new.self
           c.loop-index.lists.items c.loop-index.invariant.followed c.step.result
           (λ inputs threads steps stands given. c.step.ensures.follows inputs threads steps stands
           ((c.input-input.ensures ∙ ap (input_at fed _) c.next_input.ensures) ∙ given)) c.in-Ok.sent good
@@ -61,7 +60,6 @@ loop-index-preserved g c =
 
 pub returns : goal.returns
 returns g c steps plays =
-    let items : c.as_slice-plain-items.result.now ≡ c.args.schedule.now = c.as_slice-plain-items.ensures in
     followed_all c.args.register (g.P.Program.meaning c.args.program.now) c.args.inputs.now c.args.schedule.now
     c.loop-index.index c.loop-index.player c.loop-index.lists.items
-    (let e = ap length items in omega (arith, c.loop-index-test.false)) c.loop-index.invariant.followed steps plays
+    (omega (arith, c.loop-index-test.false, c.len-index-end.ensures)) c.loop-index.invariant.followed steps plays
