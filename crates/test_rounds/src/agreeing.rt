@@ -9,6 +9,7 @@ use access_log::{Output, Outputs};
 use box_program::Program;
 use event_replies::{Finished, put_line};
 use live_workers::Draws;
+use plain_machine::Schedule;
 use plain_text::{NoMemory, Unit};
 use recovery_core::{Memory, System};
 use recovery_world::Event;
@@ -155,10 +156,24 @@ fn are_same(ones: &[Output], others: &[Output]) -> bool {
     ones.len() == others.len()
 }
 
+/// Whether these are the same moves.
+fn are_same_moves(ones: &Schedule, others: &Schedule) -> bool {
+    let count = ones.len();
+    if others.len() != count {
+        return false;
+    }
+    for index in 0..count {
+        if ones.at(index) != others.at(index) {
+            return false;
+        }
+    }
+    true
+}
+
 /// Whether two runs came to the same.
 fn end_alike(one: &End, other: &End) -> bool {
     let (first, second) = (&one.finished, &other.finished);
-    first.schedule.as_slice() == second.schedule.as_slice()
+    are_same_moves(&first.schedule, &second.schedule)
         && first.fed == second.fed
         && first.epoch == second.epoch
         && first.released == second.released

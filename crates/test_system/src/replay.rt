@@ -163,7 +163,8 @@ fn put_end(report: &mut String, end: &Finished) -> Result<(), NoMemory> {
         report,
         "done fed {fed} epoch {epoch} released {released}\nmoves"
     )?;
-    for plain in end.schedule.as_slice() {
+    for index in 0..end.schedule.len() {
+        let plain = end.schedule.at(index);
         put_move(report, plain.thread, plain.answer)?;
     }
     Ok(())
