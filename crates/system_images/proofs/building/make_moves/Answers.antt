@@ -12,7 +12,8 @@ loop-index-preserved g c =
     let long = c.len-index-end.ensures in
     let low = c.loop-index-test.true in
     makes_more g.P.Program.meaning c.args.moves.now c.loop-index.index none_move c.at.result
-    (omega (arith, low, long)) (c.at.ensures none_move) c.args.core.now c.loop-index.core c.make_one.new.core c.loop-index.invariant c.in_ok-make_one.ensures
+    (omega (arith, low, long)) (c.at.ensures none_move) c.args.core.now c.loop-index.core c.make_one.new.core
+    c.loop-index.invariant c.in_ok-make_one.ensures
 
 pub returns : goal.returns
 returns g c =

@@ -1,4 +1,4 @@
-use Rattle.std.proofs.Common.{rules, ◌≡◌, ◌+◌, ◌<◌, ◌≤◌, ◌∙◌, arith, ap, sym, subst, length, None, Ok, Err}
+use Rattle.std.proofs.Common.{rules, ◌≡◌, ◌+◌, ◌<◌, ◌∙◌, arith, ap, subst, length, None, Ok, Err}
 use Rattle.std.specs.Prelude.{◌^◌, ◌-◌, [], min}
 use Rattle.plain_player.specs.Playing.{Stands as StandsPlayer}
 use Rattle.std.proofs.lemmas.Result.{IfOk-weaker}
@@ -39,10 +39,8 @@ returns-in-Err g c =
     omega (arith, c.loop-index-test.true, c.len-index-end.ensures) in
     let bad : c.step.result ≡ Err c.in-Err.error = search rules in
     IfOk-weaker c.far_at.result _ _
-    (λ far at. far_stops m fed c.args.moves.now c.loop-index.index less
-    c.at-plain.result none_move
-    (c.at-plain.ensures none_move) c.loop-index.player c.step.new.self
-    c.loop-index.bytes c.loop-index.invariant.far c.step.result
+    (λ far at. far_stops m fed c.args.moves.now c.loop-index.index less c.at-plain.result none_move
+    (c.at-plain.ensures none_move) c.loop-index.player c.step.new.self c.loop-index.bytes c.loop-index.invariant.far c.step.result
     (λ inputs threads steps stands given. c.step.ensures.follows inputs threads steps stands
     ((c.input-input.ensures ∙ ap (input_at fed _) c.next_input.ensures) ∙ given)) c.in-Err.error bad far at)
     c.far_at.ensures
@@ -57,10 +55,8 @@ loop-index-preserved g c =
     record {
       fits = search rules;
       made = search rules;
-      far = far_more m fed c.args.moves.now c.loop-index.index less
-          c.at-plain.result none_move
-          (c.at-plain.ensures none_move) c.loop-index.player c.step.new.self
-          c.loop-index.bytes c.loop-index.invariant.far c.step.result
+      far = far_more m fed c.args.moves.now c.loop-index.index less c.at-plain.result none_move
+          (c.at-plain.ensures none_move) c.loop-index.player c.step.new.self c.loop-index.bytes c.loop-index.invariant.far c.step.result
           (λ inputs threads steps stands given. c.step.ensures.follows inputs threads steps stands
           ((c.input-input.ensures ∙ ap (input_at fed _) c.next_input.ensures) ∙ given)) c.in-Ok.sent good _
           (c.saturating_add-bytes.ensures ∙ ap (λ n. min (c.loop-index.bytes + n) (2 ^ 64 - 1)) c.size_of.ensures);
