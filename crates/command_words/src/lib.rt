@@ -23,7 +23,7 @@ pub use job_commands::{Status, StatusText};
 pub use named_file::{NamedFile, Names, Node};
 pub use printing::{asks_text, read_text};
 pub use request::{Request, read_request};
-pub use telling::tell_more;
+pub use telling::{tell_drops, tell_more};
 pub use topic::Topic;
 pub use usage::{help, help_of, version};
 pub use watching::{WatchedTo, asks_watch, watch_words};

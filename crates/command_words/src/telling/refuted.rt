@@ -1,18 +1,17 @@
-ghost use Rattle.std.specs.Prelude.{◌≤◌, IfSome};
-
 use super::advice::{Advice, Difference, PacketAdvice};
 use super::captures::{Captured, capture_again};
 use super::fields::field_at;
 use super::files::read_again;
 use super::nearest::equal_front;
+use super::replay::{Fed, box_again, feed_again};
 use super::shown::Shown;
-use box_conf::{BoxConf, BoxKind, read_box};
+use box_conf::BoxKind;
 use input_logger::InputLog;
 use job_commands::{CheckWords, ScheduleFiles};
 use plain_machine::Schedule;
 use plain_player::read_schedule;
 use plain_text::{Packet, Packets, Text, Unit};
-use schedule_check::{emit, feed_all};
+use schedule_check::emit;
 use std::alloc::Global;
 use std::rt::Files;
 
@@ -115,31 +114,6 @@ fn play_again<R: AllocGlobal + Files>(rt: &R, names: ScheduleFiles<'_>) -> Optio
     let conf = box_again(rt, names.box_file)?;
     let fed = feed_again(rt, names.capture, conf.threads, conf.tags)?;
     emit_again(rt, names.schedule, &conf.kind, &fed)
-}
-
-fn box_again<R: AllocGlobal + Files>(rt: &R, name: &Text) -> Option<BoxConf>
-    ensures some { IfSome result (λ conf. 1 ≤ conf.threads) }
-    ensures few { IfSome result (λ conf. conf.threads ≤ 16) }
-{
-    let text = read_again(rt, name)?;
-    read_box(&text).ok()
-}
-
-/// The packets of a capture as a box takes them.
-#[derive(Drop)]
-struct Fed {
-    unit: Unit,
-    inputs: InputLog,
-}
-
-fn feed_again<R: AllocGlobal + Files>(rt: &R, name: &Text, threads: u32, tags: bool) -> Option<Fed>
-    requires some { 1 ≤ threads }
-    requires few { threads ≤ 16 }
-{
-    let capture = capture_again(rt, name)?;
-    let unit = capture.unit;
-    let inputs = feed_all(rt.alloc(), threads, tags, capture.packets).ok()?;
-    Some(Fed { unit, inputs })
 }
 
 fn emit_again<R: AllocGlobal + Files>(
