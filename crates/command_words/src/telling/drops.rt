@@ -90,8 +90,9 @@ fn count_drops<P: Program>(
     let mut player = Player::fresh(alloc, program, inputs.threads()).ok()?;
     let mut has_sent = vec![in alloc; false; inputs.threads() as usize].ok()?;
     let mut drops = [0; REASONS];
-    for plain in schedule.as_slice() {
-        let ended = make_move(alloc, program, &mut player, inputs, *plain, &mut has_sent)?;
+    for index in 0..schedule.len() {
+        let plain = schedule.at(index);
+        let ended = make_move(alloc, program, &mut player, inputs, plain, &mut has_sent)?;
         if let Some(place) = ended {
             count(&mut drops, place.regs.get(register));
         }
