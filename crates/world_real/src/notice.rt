@@ -1,5 +1,9 @@
+ghost use Rattle.std.specs.Prelude.{◌≢◌, IfSome, length};
+ghost use Rattle.world_io.specs.Stream.{PutCount};
+
 use std::io::IsTerminal;
-use world_io::Clock;
+use std::str;
+use world_io::{Clock, Put};
 
 /// A second, in microseconds.
 const SECOND: u64 = 1_000_000;
@@ -8,6 +12,12 @@ const SECOND: u64 = 1_000_000;
 pub trait Notice {
     /// This many bytes more were written.
     fn wrote(&mut self, count: usize);
+
+    /// Prints a piece of the report, where that is told alongside what else is told; none where the report stands on
+    /// standard output.
+    fn report(&mut self, piece: &[u8]) -> Option<Put>
+        ensures count { IfSome result (λ put. PutCount put (length piece.now)) }
+        ensures memory { IfSome result (λ put. put ≢ Put.NoMemory) };
 }
 
 /// Nothing is told.
@@ -16,11 +26,17 @@ pub struct Silence;
 
 impl Notice for Silence {
     fn wrote(&mut self, _count: usize) {}
+
+    fn report(&mut self, _piece: &[u8]) -> Option<Put> {
+        None
+    }
 }
 
 /// A line of progress on standard error: how long the command has run, and how many bytes it has
 /// written. It is there only where standard error is a terminal, from the first second on, and is
 /// renewed once a second, as bytes are written.
+///
+/// Where standard output has something else, the report stands on standard error, too, and no progress is shown.
 ///
 /// The line ends with a carriage return: what is printed next stands in its place.
 #[derive(Drop)]
@@ -28,19 +44,21 @@ pub struct ProgressLine<'a, C: Clock, E: Eprint> {
     clock: &'a C,
     to: &'a E,
     shown: bool,
+    reports: bool,
     began: u64,
     due: u64,
     written: u64,
 }
 
 impl<'a, C: Clock, E: Eprint + IsTerminal> ProgressLine<'a, C, E> {
-    /// The line of a command that begins now.
-    pub fn new(clock: &'a C, to: &'a E) -> Self {
+    /// The line of a command that begins now, and whether its report stands on standard error.
+    pub fn new(clock: &'a C, to: &'a E, reports: bool) -> Self {
         let began = clock.now();
         ProgressLine {
             clock,
             to,
-            shown: to.is_terminal(),
+            shown: !reports && to.is_terminal(),
+            reports,
             began,
             due: began.saturating_add(SECOND),
             written: 0,
@@ -62,5 +80,18 @@ impl<'a, C: Clock, E: Eprint> Notice for ProgressLine<'a, C, E> {
         let seconds = now.saturating_sub(self.began) / SECOND;
         let bytes = self.written;
         let _ = eprint!(self.to; "ftmb: {seconds} s, {bytes} bytes written\r");
+    }
+
+    fn report(&mut self, piece: &[u8]) -> Option<Put> {
+        if !self.reports {
+            return None;
+        }
+        let Ok(text) = str::from_utf8(piece) else {
+            return Some(Put::Failed);
+        };
+        match self.to.eprint(text) {
+            Ok(()) => Some(Put::Took(piece.len())),
+            Err(_) => Some(Put::Failed),
+        }
     }
 }

@@ -16,7 +16,7 @@ returns-clause-none g c none other is =
       by_name other is,
     )
   where
-    by_name : (other : OtherName) → IsOther c.args.words.now c.args.places c.args.written other
+    by_name : (other : OtherName) → IsOther c.args.words.now c.args.places c.args.report c.args.written other
         → MayBeOne (g.N.Names.may c.args.names.now) c.tell_file-file.result (name_of c.args.words.now other) false
     by_name (Word place) is = c.find_word.ensures.none c.in_default.is place is
     by_name Output is =
