@@ -15,11 +15,10 @@ ghost use Rattle.world_told.specs.Orderly.{are_orderly};
 ghost use Rattle.world_told.specs.Sent.{name_of, sent_to};
 
 use crate::{RealTap, SilentWorld, exit_of, run_words};
-use command_words::{Clash, Names, name_streams, one_file, read_words, tell_more, writes_output};
+use command_words::{Clash, Names, ReportOn, name_streams, one_file, read_words, tell_more};
 use job_commands::{Status, StatusText};
 use plain_text::Text;
 use release_taps::Seat;
-use std::alloc::Global;
 use std::env::{self, Args};
 use std::io;
 use std::io::IsTerminal;
@@ -41,8 +40,9 @@ pub struct Ended<W, V, T, X> {
     /// The number that it ends with.
     pub code: ExitCode,
     pub status: Status,
-    /// The words, with the names of the streams that `-` stood for; none where nothing was asked of the files.
+    /// The words, with the names of the streams that `-` stands for; none where nothing was asked of the files.
     pub words: Vec<Text>,
+    pub report: ReportOn,
     /// The files, with the record of their calls.
     pub world: W,
     /// Standard output, on which the lines of a watched capture were printed, with such a record.
@@ -54,6 +54,14 @@ pub struct Ended<W, V, T, X> {
     /// Two names that were told to be of one file, of which one was to be written.
     pub same: Option<Clash>,
 }
+
+/// What it comes to over the files of the system.
+pub type EndedOnFiles<'a, R, C, E> = Ended<
+    Told<RealWorld<&'a R, ProgressLine<'a, C, E>>>,
+    Told<SilentWorld<'a, R>>,
+    RealTap<'a, R>,
+    SilentWorld<'a, R>,
+>;
 
 /// The program: does what its arguments ask for over the files of the system, by its clock and on
 /// its threads, tells what was not done, and ends with the number of the status, which is 9 at
@@ -85,8 +93,8 @@ pub fn run_program<
 /// Does what the arguments ask for over the files of the system, and gives back their record. Where the name of an
 /// output is told to be of one file with another name (`one_file`), it does nothing. `names` tells that.
 ///
-/// A word `-` stands for standard input or standard output (`ArePiped`). Where standard output is a file that is written,
-/// the report stands on standard error.
+/// A word `-` stands for standard input or standard output (`ArePiped`), and what is promised is of the words after it is
+/// replaced. Where a file that is written is standard output, the report stands on standard error.
 ///
 /// The world of the files has a record of its calls. So what is promised by a beginning holds of the program: whatever
 /// bytes stood under the names when it began, if the system answered its reads as files with those bytes do. There is
@@ -94,8 +102,8 @@ pub fn run_program<
 /// readings gave the same bytes.
 ///
 /// It ends with `BadWords` where the arguments ask for nothing that it does, are no text, name one file twice, or read
-/// standard input twice; with
-/// `ReadFault` and `WriteFault` where a world counted a fault; and with `NoMemory` where memory ran out.
+/// standard input twice; with `ReadFault` and `WriteFault` where a world counted a fault; and with `NoMemory` where memory
+/// ran out.
 pub fn run_arguments<
     'a,
     R: AllocGlobal + Files + Print + Eprint + Threads + Wait + Sync,
@@ -108,16 +116,11 @@ pub fn run_arguments<
     clock: &'a C,
     errors: &'a E,
     names: &N,
-) -> Ended<
-    Told<RealWorld<&'a R, ProgressLine<'a, C, E>>>,
-    Told<SilentWorld<'a, R>>,
-    RealTap<'a, R>,
-    SilentWorld<'a, R>,
->
+) -> EndedOnFiles<'a, R, C, E>
     ensures number { EndsWith result.status (exit_status result.code) }
     ensures piped { IfOk arguments (λ all.
         AskedNothing (N.may names.now) result.same (words_of all) result.status result.world.calls
-        ⊎ ArePiped (words_of all) result.words.items) }
+        ⊎ ArePiped (words_of all) result.words.items result.report) }
     ensures runs { IfOk arguments (λ all.
         AskedNothing (N.may names.now) result.same (words_of all) result.status result.world.calls
         ⊎ RunsFiles (C.may clock.now) (λ w. (real_ledger w).write_faults) result.refused
@@ -136,7 +139,7 @@ pub fn run_arguments<
         result.words.items pairs result.world result.taps.items)) }
     ensures apart { IfOk arguments (λ all.
         AskedNothing (N.may names.now) result.same (words_of all) result.status result.world.calls
-        ⊎ NoneClash (N.may names.now) (words_of all)) }
+        ⊎ NoneClash (N.may names.now) result.words.items result.report) }
     ensures no_words { IfErr arguments (λ error.
         Refuses (error_kind error) result.status × (result.world.calls ≡ [])) }
     ensures orderly { are_orderly result.world.calls ≡ true }
@@ -147,33 +150,34 @@ pub fn run_arguments<
         ⊎ ((0 < (real_ledger result.out.world).write_faults)
         ⊎ HasRefused (λ w. (real_ledger w).write_faults) result.refused) }
 {
-    let typed = read_words(rt.alloc(), arguments);
-    let line = ProgressLine::new(clock, errors, reports_on_errors(&typed));
-    let world = Told::of(RealWorld::new(rt.alloc(), rt, line));
-    let out = Told::of(RealWorld::new(rt.alloc(), rt, Silence));
-    let typed = match typed {
+    let typed = match read_words(rt.alloc(), arguments) {
         Ok(typed) => typed,
-        Err(status) => return Ended::at_once(rt.alloc(), end(rt, status), status, world, out, None),
-    };
-    let texts = typed.as_slice();
-    if let Some(clash) = one_file(names, texts) {
-        end_line(errors);
-        let code = end_more(rt, texts, Status::BadWords);
-        return Ended::at_once(rt.alloc(), code, Status::BadWords, world, out, Some(clash));
-    }
-    let words = match name_streams(rt.alloc(), texts) {
-        Ok(words) => words,
         Err(status) => {
-            let code = end_more(rt, texts, status);
-            return Ended::at_once(rt.alloc(), code, status, world, out, None);
+            let code = end(rt, status);
+            return end_at_once(rt, clock, errors, code, status, None);
         }
     };
-    let run = run_words(rt, words.as_slice(), world, out, clock, &OpenGate);
+    let piped = match name_streams(rt.alloc(), typed.as_slice()) {
+        Ok(piped) => piped,
+        Err(status) => {
+            let code = end_more(rt, typed.as_slice(), status);
+            return end_at_once(rt, clock, errors, code, status, None);
+        }
+    };
+    if let Some(clash) = one_file(names, piped.words.as_slice(), piped.report) {
+        let code = end_more(rt, typed.as_slice(), Status::BadWords);
+        return end_at_once(rt, clock, errors, code, Status::BadWords, Some(clash));
+    }
+    let line = ProgressLine::new(clock, errors, piped.report == ReportOn::Errors);
+    let world = Told::of(RealWorld::new(rt.alloc(), rt, line));
+    let out = Told::of(RealWorld::new(rt.alloc(), rt, Silence));
+    let run = run_words(rt, piped.words.as_slice(), world, out, clock, &OpenGate);
     end_line(errors);
     Ended {
-        code: end_more(rt, words.as_slice(), run.status),
+        code: end_more(rt, typed.as_slice(), run.status),
         status: run.status,
-        words,
+        words: piped.words,
+        report: piped.report,
         world: run.world,
         out: run.out,
         taps: run.taps,
@@ -182,40 +186,31 @@ pub fn run_arguments<
     }
 }
 
-/// Whether the report stands on standard error, since standard output is one of the files.
-fn reports_on_errors(words: &Result<Vec<Text>, Status>) -> bool {
-    match words {
-        Ok(words) => writes_output(words.as_slice()),
-        Err(_) => false,
-    }
-}
-
-impl<W, V, T, X> Ended<W, V, T, X> {
-    /// What the program comes to where nothing is asked of the files.
-    fn at_once(
-        alloc: Global,
-        code: ExitCode,
-        status: Status,
-        world: W,
-        out: V,
-        same: Option<Clash>,
-    ) -> Self
-        ensures code { result.code ≡ code }
-        ensures status { result.status ≡ status }
-        ensures world { result.world ≡ world }
-        ensures out { result.out ≡ out }
-        ensures same { result.same ≡ same }
-    {
-        Ended {
-            code,
-            status,
-            words: Vec::new(alloc),
-            world,
-            out,
-            taps: Vec::new(alloc),
-            refused: None,
-            same,
-        }
+/// What the program comes to where nothing is asked of the files.
+fn end_at_once<'a, R: AllocGlobal + Files + Print, C: Clock, E: Eprint + IsTerminal>(
+    rt: &'a R,
+    clock: &'a C,
+    errors: &'a E,
+    code: ExitCode,
+    status: Status,
+    same: Option<Clash>,
+) -> EndedOnFiles<'a, R, C, E>
+    ensures code { result.code ≡ code }
+    ensures status { result.status ≡ status }
+    ensures same { result.same ≡ same }
+    ensures none { result.world.calls ≡ [] }
+{
+    let line = ProgressLine::new(clock, errors, false);
+    Ended {
+        code,
+        status,
+        words: Vec::new(rt.alloc()),
+        report: ReportOn::Output,
+        world: Told::of(RealWorld::new(rt.alloc(), rt, line)),
+        out: Told::of(RealWorld::new(rt.alloc(), rt, Silence)),
+        taps: Vec::new(rt.alloc()),
+        refused: None,
+        same,
     }
 }
 

@@ -1,4 +1,4 @@
-ghost use Rattle.std.specs.Prelude.{◌≡◌, ◌<◌, ℕ, IfSome, None, true, false, length};
+ghost use Rattle.std.specs.Prelude.{◌≡◌, ◌<◌, ℕ, IfSome, None, codes, true, false, length};
 ghost use Rattle.command_words.specs.Clashes.{Clashes, IsOther, IsOtherWord, MayBeOne, MayTell};
 ghost use Rattle.command_words.specs.Clashes.{NoneClash, name_of};
 ghost use Rattle.command_words.specs.Pipes.{word_at};
@@ -68,13 +68,23 @@ fn find_other<N: Names>(
     if let Some(place) = find_word(names, words, places, written, &file) {
         return Some(OtherName::Word(place));
     }
-    if report == ReportOn::Output && is_name_of(names, &file, "/dev/stdout") {
+    if is_report(names, &file, report) {
         return Some(OtherName::Output);
     }
     if is_name_of(names, &file, "/dev/stderr") {
         return Some(OtherName::Errors);
     }
     None
+}
+
+/// Whether the report stands on standard output, and that is this file.
+fn is_report<N: Names>(names: &N, file: &NamedFile, report: ReportOn) -> bool
+    ensures found { result ≡ true → (report ≡ ReportOn.Output)
+        × MayBeOne (N.may names.now) file.now (codes "/dev/stdout") true }
+    ensures none { result ≡ false → report ≡ ReportOn.Output
+        → MayBeOne (N.may names.now) file.now (codes "/dev/stdout") false }
+{
+    report == ReportOn::Output && is_name_of(names, file, "/dev/stdout")
 }
 
 /// The place of another word that names this file.

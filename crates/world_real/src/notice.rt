@@ -1,6 +1,7 @@
-ghost use Rattle.std.specs.Prelude.{◌≢◌, IfSome, length};
+ghost use Rattle.std.specs.Prelude.{◌≡◌, ◌≢◌, ◌↔◌, Bool, IfSome, None, false, length};
 ghost use Rattle.world_io.specs.Stream.{PutCount};
 
+use crate::pieces::count_report;
 use std::io::IsTerminal;
 use std::str;
 use world_io::{Clock, Put};
@@ -10,12 +11,16 @@ const SECOND: u64 = 1_000_000;
 
 /// What is told while a command runs. Nothing that it does changes what the command leaves.
 pub trait Notice {
+    /// Whether the report stands on standard error.
+    ghost on_errors: { Self → Bool };
+
     /// This many bytes more were written.
     fn wrote(&mut self, count: usize);
 
-    /// Prints a piece of the report, where that is told alongside what else is told; none where the report stands on
-    /// standard output.
+    /// Prints a piece of the report, where the report stands on standard error; none where it stands on standard output.
+    /// A piece that nobody reads counts as taken (`count_report`).
     fn report(&mut self, piece: &[u8]) -> Option<Put>
+        ensures stands { result ≡ None ↔ on_errors self.old ≡ false }
         ensures count { IfSome result (λ put. PutCount put (length piece.now)) }
         ensures memory { IfSome result (λ put. put ≢ Put.NoMemory) };
 }
@@ -25,6 +30,8 @@ pub trait Notice {
 pub struct Silence;
 
 impl Notice for Silence {
+    ghost on_errors = { λ _. false };
+
     fn wrote(&mut self, _count: usize) {}
 
     fn report(&mut self, _piece: &[u8]) -> Option<Put> {
@@ -36,7 +43,7 @@ impl Notice for Silence {
 /// written. It is there only where standard error is a terminal, from the first second on, and is
 /// renewed once a second, as bytes are written.
 ///
-/// Where standard output has something else, the report stands on standard error, too, and no progress is shown.
+/// Where standard output is a file that is written, the report stands on standard error, and no progress is shown.
 ///
 /// The line ends with a carriage return: what is printed next stands in its place.
 #[derive(Drop)]
@@ -52,7 +59,9 @@ pub struct ProgressLine<'a, C: Clock, E: Eprint> {
 
 impl<'a, C: Clock, E: Eprint + IsTerminal> ProgressLine<'a, C, E> {
     /// The line of a command that begins now, and whether its report stands on standard error.
-    pub fn new(clock: &'a C, to: &'a E, reports: bool) -> Self {
+    pub fn new(clock: &'a C, to: &'a E, reports: bool) -> Self
+        ensures { result.reports ≡ reports }
+    {
         let began = clock.now();
         ProgressLine {
             clock,
@@ -67,6 +76,8 @@ impl<'a, C: Clock, E: Eprint + IsTerminal> ProgressLine<'a, C, E> {
 }
 
 impl<'a, C: Clock, E: Eprint> Notice for ProgressLine<'a, C, E> {
+    ghost on_errors = { λ line. line.reports };
+
     fn wrote(&mut self, count: usize) {
         self.written = self.written.saturating_add(count as u64);
         if !self.shown {
@@ -89,9 +100,10 @@ impl<'a, C: Clock, E: Eprint> Notice for ProgressLine<'a, C, E> {
         let Ok(text) = str::from_utf8(piece) else {
             return Some(Put::Failed);
         };
-        match self.to.eprint(text) {
-            Ok(()) => Some(Put::Took(piece.len())),
-            Err(_) => Some(Put::Failed),
-        }
+        let written = match self.to.eprint(text) {
+            Ok(()) => Ok(piece.len()),
+            Err(error) => Err(error),
+        };
+        Some(count_report(written, piece.len()))
     }
 }
