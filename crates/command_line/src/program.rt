@@ -93,8 +93,8 @@ pub fn run_program<
 /// Does what the arguments ask for over the files of the system, and gives back their record. Where the name of an
 /// output is told to be of one file with another name (`one_file`), it does nothing. `names` tells that.
 ///
-/// A word `-` stands for standard input or standard output (`ArePiped`), and what is promised is of the words after it is
-/// replaced. Where a file that is written is standard output, the report stands on standard error.
+/// A word `-` stands for standard input or standard output (`ArePiped`), and what is promised is of the words after it
+/// is replaced. Where a file that is written is standard output, the report stands on standard error.
 ///
 /// The world of the files has a record of its calls. So what is promised by a beginning holds of the program: whatever
 /// bytes stood under the names when it began, if the system answered its reads as files with those bytes do. There is
@@ -102,8 +102,8 @@ pub fn run_program<
 /// readings gave the same bytes.
 ///
 /// It ends with `BadWords` where the arguments ask for nothing that it does, are no text, name one file twice, or read
-/// standard input twice; with `ReadFault` and `WriteFault` where a world counted a fault; and with `NoMemory` where memory
-/// ran out.
+/// standard input twice; with `ReadFault` and `WriteFault` where a world counted a fault; and with `NoMemory` where
+/// memory ran out.
 pub fn run_arguments<
     'a,
     R: AllocGlobal + Files + Print + Eprint + Threads + Wait + Sync,

@@ -1,5 +1,5 @@
--- Words in which `-` stands for a stream: for standard input at the place of an input, and for standard output at that of
--- a file that is written.
+-- Words in which `-` stands for a stream: for standard input at the place of an input, and for standard output at that
+-- of a file that is written.
 use Rattle.std.specs.Prelude.{◌≡◌, ◌↔◌, ℕ, zero, suc, ◌+◌, ◌*◌, ◌<◌, ◌≤◌, Bool, IsTrue, List, [], codes, if◌then◌else◌}
 use Rattle.std.specs.Prelude.{Some, length, slice_get, slice_index_or}
 use Rattle.std.specs.Str.{bytes_eq}

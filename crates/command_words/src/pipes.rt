@@ -36,8 +36,8 @@ enum Side {
     Written,
 }
 
-/// The words, with `/dev/stdin` or `/dev/stdout` in the place of each `-` that stands for a stream, and where the report
-/// stands then. They are bad words where two inputs are standard input, which can be read once.
+/// The words, with `/dev/stdin` or `/dev/stdout` in the place of each `-` that stands for a stream, and where the
+/// report stands then. They are bad words where two inputs are standard input, which can be read once.
 pub fn name_streams(alloc: Global, words: &[Text]) -> Result<Piped, Status>
     ensures piped { IfOk result
         (λ piped. ArePiped words.now piped.words.items piped.report) }
@@ -57,8 +57,8 @@ pub fn name_streams(alloc: Global, words: &[Text]) -> Result<Piped, Status>
     }
 }
 
-/// Where the names of files stand. Unlike `read_places` it takes the name of a tap for one where another word is the same
-/// one: a tap and an input may both be `-`.
+/// Where the names of files stand. Unlike `read_places` it takes the name of a tap for one where another word is the
+/// same one: a tap and an input may both be `-`.
 fn read_pipe_places(words: &[Text]) -> WordPlaces
     ensures { ArePipePlaces words.now result }
 {

@@ -17,8 +17,8 @@ pub trait Notice {
     /// This many bytes more were written.
     fn wrote(&mut self, count: usize);
 
-    /// Prints a piece of the report, where the report stands on standard error; none where it stands on standard output.
-    /// A piece that nobody reads counts as taken (`count_report`).
+    /// Prints a piece of the report, where the report stands on standard error; none where it stands on standard
+    /// output. A piece that nobody reads counts as taken (`count_report`).
     fn report(&mut self, piece: &[u8]) -> Option<Put>
         ensures stands { result ≡ None ↔ on_errors self.old ≡ false }
         ensures count { IfSome result (λ put. PutCount put (length piece.now)) }

@@ -21,8 +21,8 @@ use world_io::{Filled, OpenFault, Put, World};
 /// The name of standard output.
 const STDOUT: &str = "/dev/stdout";
 
-/// The files of the system, by their paths, and standard output as the report, or standard error, where the notice prints
-/// it there. A piece of the report whose pipe is closed counts as taken, though nothing of it was written
+/// The files of the system, by their paths, and standard output as the report, or standard error, where the notice
+/// prints it there. A piece of the report whose pipe is closed counts as taken, though nothing of it was written
 /// (`count_report`): that nobody reads the report is no fault.
 ///
 /// `/dev/stdout` is written after what it has: of a file that standard output appends to nothing is taken away.

@@ -25,8 +25,8 @@ const EMPTY: &str = ": nothing was written to it: its disk may be full";
 /// What is told where no output is at fault by its name.
 const DISK: &str = "no output is at fault by its name: a disk may be full";
 
-/// The same where standard output is a pipe, or can't be told: an output may be that pipe. (That nobody reads the report
-/// is no fault.)
+/// The same where standard output is a pipe, or can't be told: an output may be that pipe. (That nobody reads the
+/// report is no fault.)
 const DISK_OR_READER: &str =
     "no output is at fault by its name: a disk is full, or nobody reads an output";
 
