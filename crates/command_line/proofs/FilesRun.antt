@@ -136,8 +136,11 @@ module _ {A E : Type 0} (arguments : Result A E) (of : A → List (List ℕ)) (w
       → IfOk arguments (λ all. AskedNothing tells same (of all) status calls ⊎ Ran all)
   clashed tells same status calls clash piped report Ran none bad is are clashes =
       asked_only (λ typed. AskedNothing tells same typed status calls) Ran (record {
-        cause = inr (bad, inl (subst (λ (s : Option Clash). HasClash tells words s) (sym is)
-            (piped, report, are, clashes)));
+        cause = inr (
+          bad,
+          inl (subst (λ (s : Option Clash). HasClash tells words s) (sym is)
+              (piped, report, are, clashes)),
+        );
         none = none;
       })
 

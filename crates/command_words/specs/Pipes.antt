@@ -46,8 +46,8 @@ IsPiped words places side place =
 abbrev pub stream_at : WordPlaces → ℕ → List ℕ → List ℕ
 stream_at places place word =
     if bytes_eq word (codes "-") then
-      (if is_input places place then codes "/dev/stdin" else
-       if is_written places place then codes "/dev/stdout" else word)
+    (if is_input places place then codes "/dev/stdin" else
+    if is_written places place then codes "/dev/stdout" else word)
     else word
 
 -- the name that the word at this place is or stands for
