@@ -132,3 +132,6 @@ returns-in-Some-clause-apart g c =
     ended.ensures.status ended.ensures.same c.in-Ok-name_streams.ensures.piped
     (subst (λ (words : List (List ℕ)). Clashes (g.N.Names.may c.args.names.now) words piped.report c.in-Some.clash)
     c.as_slice-2.ensures.value c.in-Some.ensures.found)
+
+pub returns-in-Some-clause-no_words : goal.returns-in-Some-clause-no_words
+returns-in-Some-clause-no_words g c = read c.args.arguments _ c.in-Ok.ensures.refused
