@@ -12,13 +12,16 @@ use Rattle.world_told.specs.Events.{Event, WithCalls, shown_after}
 use Rattle.world_told.specs.Honest.{IsHonest}
 use Rattle.world_told.specs.Ledgers.{told_ledger}
 use Rattle.job_commands.specs.declared.status.Status.{Status}
-use Rattle.job_commands.specs.declared.status.Status.TheVariants.{BadWords, NoMemory, ReadFault, WriteFault}
+use Rattle.job_commands.specs.declared.status.Status.TheVariants.{BadWords}
 use Rattle.job_top.specs.Answers.{Answers, AnswersBytes}
 use Rattle.release_taps.specs.Split.{AsksForTaps, behind_pairs}
-use Rattle.command_line.specs.Running.{AskedNothing, AsksToWatch, IsNotBegun, PrintsFiles, Runs, RunsFiles}
+use Rattle.command_line.specs.Running.{AskedNothing, AsksToWatch, HasClash, IsNotBegun, PrintsFiles, Runs, RunsFiles}
+use Rattle.command_words.specs.Clashes.{Clashes}
+use Rattle.command_words.specs.Pipes.{ArePiped}
 use Rattle.command_words.specs.Watching.{PrintsLines, Watches}
 use Rattle.command_words.specs.declared.clashes.Clash.{Clash}
 use Rattle.command_words.specs.declared.named_file.NamedFile.{NamedFile}
+use Rattle.command_words.specs.declared.pipes.ReportOn.{ReportOn}
 use Rattle.command_line.specs.Performing.{Performs}
 
 pub not_begun : {W X : Type 0} (faults : X → ℕ) (refused : Option X) (status : Status) (old new : WithCalls W)
@@ -114,29 +117,28 @@ module _ {A E : Type 0} (arguments : Result A E) (of : A → List (List ℕ)) (w
       go (Ok all) same = inl (subst Asked same asked)
       go (Err error) same = tt
 
-pub no_memory : {A E : Type 0} (arguments : Result A E) (of : A → List (List ℕ))
-    (tells : List ℕ → NamedFile → Type 0) (same : Option Clash) (status : Status) (calls : List Event)
-    (Ran : A → Type 0) → calls ≡ [] → IfOk arguments (λ all. status ≡ NoMemory)
-    → IfOk arguments (λ all. AskedNothing tells same (of all) status calls ⊎ Ran all)
-no_memory (Ok all) of tells same status calls Ran none is = inl (record { cause = inl is; none = none })
-no_memory (Err error) of tells same status calls Ran none is = tt
+  -- two names are of one file
+  pub clashed : (tells : List ℕ → NamedFile → Type 0) (same : Option Clash) (status : Status) (calls : List Event)
+      (clash : Clash) (piped : List (List ℕ)) (report : ReportOn) (Ran : A → Type 0) → calls ≡ [] → status ≡ BadWords
+      → same ≡ Some clash → ArePiped words piped report → Clashes tells piped report clash
+      → IfOk arguments (λ all. AskedNothing tells same (of all) status calls ⊎ Ran all)
+  clashed tells same status calls clash piped report Ran none bad is are clashes =
+      asked_only (λ typed. AskedNothing tells same typed status calls) Ran (record {
+        cause = inr (
+          bad,
+          inl (subst (λ (s : Option Clash). HasClash tells words s) (sym is)
+              (piped, report, are, clashes)),
+        );
+        none = none;
+      })
 
-pub not_read : {A E : Type 0} (arguments : Result A E) (Said : E → Type 0) (Also : Type 0) → Also
-    → IfErr arguments Said → IfErr arguments (λ error. Said error × Also)
-not_read (Ok all) Said Also none said = tt
-not_read (Err error) Said Also none said = (said, none)
+-- whatever the arguments are
+pub ran_anyway : {A E : Type 0} (arguments : Result A E) (Asked : A → Type 0) (Ran : Type 0) → Ran
+    → IfOk arguments (λ all. Asked all ⊎ Ran)
+ran_anyway (Ok all) Asked Ran ran = inr ran
+ran_anyway (Err error) Asked Ran ran = tt
 
 pub read : {A E : Type 0} (arguments : Result A E) (Asked : E → Type 0) → IfErr arguments (λ error. ⊥)
     → IfErr arguments Asked
 read (Ok all) Asked never = tt
 read (Err error) Asked never = absurd never
-
--- where there are no words, no fault is told
-
-pub no_read_fault : (status : Status) → (status ≡ BadWords) ⊎ (status ≡ NoMemory) → status ≡ ReadFault → ⊥
-no_read_fault status (inl bad) is = let never : BadWords ≡ ReadFault = sym bad ∙ is in cc
-no_read_fault status (inr memory) is = let never : NoMemory ≡ ReadFault = sym memory ∙ is in cc
-
-pub no_write_fault : (status : Status) → (status ≡ BadWords) ⊎ (status ≡ NoMemory) → status ≡ WriteFault → ⊥
-no_write_fault status (inl bad) is = let never : BadWords ≡ WriteFault = sym bad ∙ is in cc
-no_write_fault status (inr memory) is = let never : NoMemory ≡ WriteFault = sym memory ∙ is in cc

@@ -18,10 +18,12 @@ use Rattle.packet_taps.specs.Watching.{JudgesWatched}
 use Rattle.packet_taps.specs.Words.{watch_names}
 use Rattle.command_line.specs.Performing.{Performs, PerformsIn, WatchesIn}
 use Rattle.command_words.specs.Clashes.{Clashes}
+use Rattle.command_words.specs.Pipes.{ArePiped, ReadsTwice}
 use Rattle.command_words.specs.Printing.{asked_text}
 use Rattle.command_words.specs.Watching.{Watches, begins_watch, watch_status}
 use Rattle.command_words.specs.declared.clashes.Clash.{Clash}
 use Rattle.command_words.specs.declared.named_file.NamedFile.{NamedFile}
+use Rattle.command_words.specs.declared.pipes.ReportOn.{ReportOn}
 
 -- The words ask for no rounds of racing threads, that is not for `live`: neither they, where they ask for no tap, nor
 -- those after the taps.
@@ -108,16 +110,17 @@ pub record TapsMirror {W T : Type 0} (honest : Start → W → Type 0) (shows : 
 
 -- Of the installed program
 
--- two names were told to be of one file, of which one is to be written
+-- two names were told to be of one file, of which one is to be written, where the streams have their names
 abbrev pub HasClash : (List ℕ → NamedFile → Type 0) → List (List ℕ) → Option Clash → Type 0
 HasClash tells words None = ⊥
-HasClash tells words (Some clash) = Clashes tells words clash
+HasClash tells words (Some clash) =
+    (piped : List (List ℕ)) × (report : ReportOn) × ArePiped words piped report × Clashes tells piped report clash
 
--- Nothing was asked of the files: memory ran out, or two names were told to be of one file, of which one is to be
--- written, by what may be told of names.
+-- Nothing was asked of the files: memory ran out; or two names were told to be of one file, of which one is to be
+-- written, by what may be told of names; or two inputs are standard input.
 pub record AskedNothing (tells : List ℕ → NamedFile → Type 0) (same : Option Clash) (words : List (List ℕ))
     (status : Status) (calls : List Event) : Type 0 where
-  pub cause : (status ≡ NoMemory) ⊎ ((status ≡ BadWords) × HasClash tells words same)
+  pub cause : (status ≡ NoMemory) ⊎ ((status ≡ BadWords) × (HasClash tells words same ⊎ ReadsTwice words))
   pub none : calls ≡ []
 
 -- What a run of the words promises where its files had these calls: by each beginning of which their answers are

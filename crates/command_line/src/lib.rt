@@ -14,9 +14,9 @@ mod running;
 pub use answering::perform;
 pub use choosing::run_words;
 pub use command_words::{
-    Status, StatusText, WatchedTo, asks_text, asks_watch, one_file, read_text, read_words,
-    tell_more, watch_words,
+    Piped, ReportOn, Status, StatusText, WatchedTo, asks_text, asks_watch, name_streams, one_file,
+    read_text, read_words, tell_more, watch_words,
 };
 pub use ending::exit_of;
-pub use program::{Ended, run_arguments, run_program};
+pub use program::{Ended, EndedOnFiles, run_arguments, run_program};
 pub use running::{Ran, RealTap, SilentWorld};

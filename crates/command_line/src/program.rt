@@ -4,6 +4,7 @@ ghost use Rattle.std.specs.Process.{exit_status};
 ghost use Rattle.command_line.specs.Running.{AskedNothing, EndsWith, HasRefused, IsNotBegun};
 ghost use Rattle.command_line.specs.Running.{PrintsFiles, RunsFiles, TapsMirror};
 ghost use Rattle.command_words.specs.Clashes.{NoneClash};
+ghost use Rattle.command_words.specs.Pipes.{ArePiped};
 ghost use Rattle.command_words.specs.Words.{Refuses, words_of};
 ghost use Rattle.release_taps.specs.Split.{AsksForTaps};
 ghost use Rattle.world_real.specs.Real.{real_ledger};
@@ -14,7 +15,7 @@ ghost use Rattle.world_told.specs.Orderly.{are_orderly};
 ghost use Rattle.world_told.specs.Sent.{name_of, sent_to};
 
 use crate::{RealTap, SilentWorld, exit_of, run_words};
-use command_words::{Clash, Names, one_file, read_words, tell_more};
+use command_words::{Clash, Names, ReportOn, name_streams, one_file, read_words, tell_more};
 use job_commands::{Status, StatusText};
 use plain_text::Text;
 use release_taps::Seat;
@@ -39,6 +40,9 @@ pub struct Ended<W, V, T, X> {
     /// The number that it ends with.
     pub code: ExitCode,
     pub status: Status,
+    /// The words, with the names of the streams that `-` stands for; none where nothing was asked of the files.
+    pub words: Vec<Text>,
+    pub report: ReportOn,
     /// The files, with the record of their calls.
     pub world: W,
     /// Standard output, on which the lines of a watched capture were printed, with such a record.
@@ -50,6 +54,14 @@ pub struct Ended<W, V, T, X> {
     /// Two names that were told to be of one file, of which one was to be written.
     pub same: Option<Clash>,
 }
+
+/// What it comes to over the files of the system.
+pub type EndedOnFiles<'a, R, C, E> = Ended<
+    Told<RealWorld<&'a R, ProgressLine<'a, C, E>>>,
+    Told<SilentWorld<'a, R>>,
+    RealTap<'a, R>,
+    SilentWorld<'a, R>,
+>;
 
 /// The program: does what its arguments ask for over the files of the system, by its clock and on
 /// its threads, tells what was not done, and ends with the number of the status, which is 9 at
@@ -81,13 +93,17 @@ pub fn run_program<
 /// Does what the arguments ask for over the files of the system, and gives back their record. Where the name of an
 /// output is told to be of one file with another name (`one_file`), it does nothing. `names` tells that.
 ///
+/// A word `-` stands for standard input or standard output (`ArePiped`), and what is promised is of the words after it
+/// is replaced. Where a file that is written is standard output, the report stands on standard error.
+///
 /// The world of the files has a record of its calls. So what is promised by a beginning holds of the program: whatever
 /// bytes stood under the names when it began, if the system answered its reads as files with those bytes do. There is
 /// such a beginning (`some_beginning`), since the calls are orderly: where no name was opened twice, or else where both
 /// readings gave the same bytes.
 ///
-/// It ends with `BadWords` where the arguments ask for nothing that it does, are no text, or name one file twice; with
-/// `ReadFault` and `WriteFault` where a world counted a fault; and with `NoMemory` where memory ran out.
+/// It ends with `BadWords` where the arguments ask for nothing that it does, are no text, name one file twice, or read
+/// standard input twice; with `ReadFault` and `WriteFault` where a world counted a fault; and with `NoMemory` where
+/// memory ran out.
 pub fn run_arguments<
     'a,
     R: AllocGlobal + Files + Print + Eprint + Threads + Wait + Sync,
@@ -100,32 +116,30 @@ pub fn run_arguments<
     clock: &'a C,
     errors: &'a E,
     names: &N,
-) -> Ended<
-    Told<RealWorld<&'a R, ProgressLine<'a, C, E>>>,
-    Told<SilentWorld<'a, R>>,
-    RealTap<'a, R>,
-    SilentWorld<'a, R>,
->
+) -> EndedOnFiles<'a, R, C, E>
     ensures number { EndsWith result.status (exit_status result.code) }
+    ensures piped { IfOk arguments (λ all.
+        AskedNothing (N.may names.now) result.same (words_of all) result.status result.world.calls
+        ⊎ ArePiped (words_of all) result.words.items result.report) }
     ensures runs { IfOk arguments (λ all.
         AskedNothing (N.may names.now) result.same (words_of all) result.status result.world.calls
         ⊎ RunsFiles (C.may clock.now) (λ w. (real_ledger w).write_faults) result.refused
-        (words_of all) result.status result.world.calls) }
+        result.words.items result.status result.world.calls) }
     ensures prints { IfOk arguments (λ all.
         AskedNothing (N.may names.now) result.same (words_of all) result.status result.world.calls
-        ⊎ PrintsFiles (words_of all) result.status result.world.calls result.out.calls) }
+        ⊎ PrintsFiles result.words.items result.status result.world.calls result.out.calls) }
     ensures mirrors { IfOk arguments (λ all.
         AskedNothing (N.may names.now) result.same (words_of all) result.status result.world.calls
-        ⊎ ((pairs : ℕ) → AsksForTaps (words_of all) pairs
+        ⊎ ((pairs : ℕ) → AsksForTaps result.words.items pairs
         → IsNotBegun (λ w. (real_ledger w).write_faults) result.refused result.status
         [] result.world.calls ⊎ TapsMirror (λ p t. IsHonest p t.calls)
         (λ p t. shown_after p t.calls) (told_ledger real_ledger)
         (λ t. (t.faults ≡ 0) × (t.lacks ≡ 0)) (λ t. sent_to t.file t.world.calls)
         (λ t. t.faults) (λ t. t.lacks) (λ t. name_of t.file t.world.calls)
-        (words_of all) pairs result.world result.taps.items)) }
+        result.words.items pairs result.world result.taps.items)) }
     ensures apart { IfOk arguments (λ all.
         AskedNothing (N.may names.now) result.same (words_of all) result.status result.world.calls
-        ⊎ NoneClash (N.may names.now) (words_of all)) }
+        ⊎ NoneClash (N.may names.now) result.words.items result.report) }
     ensures no_words { IfErr arguments (λ error.
         Refuses (error_kind error) result.status × (result.world.calls ≡ [])) }
     ensures orderly { are_orderly result.world.calls ≡ true }
@@ -136,46 +150,67 @@ pub fn run_arguments<
         ⊎ ((0 < (real_ledger result.out.world).write_faults)
         ⊎ HasRefused (λ w. (real_ledger w).write_faults) result.refused) }
 {
-    let line = ProgressLine::new(clock, errors);
-    let world = Told::of(RealWorld::new(rt.alloc(), rt, line));
-    let out = Told::of(RealWorld::new(rt.alloc(), rt, Silence));
-    let words = match read_words(rt.alloc(), arguments) {
-        Ok(words) => words,
+    let typed = match read_words(rt.alloc(), arguments) {
+        Ok(typed) => typed,
         Err(status) => {
-            return Ended {
-                code: end(rt, status),
-                status,
-                world,
-                out,
-                taps: Vec::new(rt.alloc()),
-                refused: None,
-                same: None,
-            };
+            let code = end(rt, status);
+            return end_at_once(rt, clock, errors, code, status, None);
         }
     };
-    let texts = words.as_slice();
-    if let Some(clash) = one_file(names, texts) {
-        end_line(errors);
-        return Ended {
-            code: end_more(rt, texts, Status::BadWords),
-            status: Status::BadWords,
-            world,
-            out,
-            taps: Vec::new(rt.alloc()),
-            refused: None,
-            same: Some(clash),
-        };
+    let piped = match name_streams(rt.alloc(), typed.as_slice()) {
+        Ok(piped) => piped,
+        Err(status) => {
+            let code = end_more(rt, typed.as_slice(), status);
+            return end_at_once(rt, clock, errors, code, status, None);
+        }
+    };
+    if let Some(clash) = one_file(names, piped.words.as_slice(), piped.report) {
+        let code = end_more(rt, typed.as_slice(), Status::BadWords);
+        return end_at_once(rt, clock, errors, code, Status::BadWords, Some(clash));
     }
-    let run = run_words(rt, texts, world, out, clock, &OpenGate);
+    let line = ProgressLine::new(clock, errors, piped.report == ReportOn::Errors);
+    let world = Told::of(RealWorld::new(rt.alloc(), rt, line));
+    let out = Told::of(RealWorld::new(rt.alloc(), rt, Silence));
+    let run = run_words(rt, piped.words.as_slice(), world, out, clock, &OpenGate);
     end_line(errors);
     Ended {
-        code: end_more(rt, texts, run.status),
+        code: end_more(rt, typed.as_slice(), run.status),
         status: run.status,
+        words: piped.words,
+        report: piped.report,
         world: run.world,
         out: run.out,
         taps: run.taps,
         refused: run.refused,
         same: None,
+    }
+}
+
+/// What the program comes to where nothing is asked of the files.
+fn end_at_once<'a, R: AllocGlobal + Files + Print, C: Clock, E: Eprint + IsTerminal>(
+    rt: &'a R,
+    clock: &'a C,
+    errors: &'a E,
+    code: ExitCode,
+    status: Status,
+    same: Option<Clash>,
+) -> EndedOnFiles<'a, R, C, E>
+    ensures code { result.code ≡ code }
+    ensures status { result.status ≡ status }
+    ensures same { result.same ≡ same }
+    ensures none { result.world.calls ≡ [] }
+{
+    let line = ProgressLine::new(clock, errors, false);
+    Ended {
+        code,
+        status,
+        words: Vec::new(rt.alloc()),
+        report: ReportOn::Output,
+        world: Told::of(RealWorld::new(rt.alloc(), rt, line)),
+        out: Told::of(RealWorld::new(rt.alloc(), rt, Silence)),
+        taps: Vec::new(rt.alloc()),
+        refused: None,
+        same,
     }
 }
 

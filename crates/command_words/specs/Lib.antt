@@ -1,5 +1,6 @@
 pub mod Clashes
 pub mod Faults
+pub mod Pipes
 pub mod Printing
 pub mod Request
 pub mod Watching

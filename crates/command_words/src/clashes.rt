@@ -1,10 +1,11 @@
-ghost use Rattle.std.specs.Prelude.{◌≡◌, ◌<◌, ℕ, IfSome, None, true, false, length};
-ghost use Rattle.command_words.specs.Clashes.{Clashes, IsOther, MayBeOne, MayTell, NoneClash};
-ghost use Rattle.command_words.specs.Clashes.{name_of};
-ghost use Rattle.command_words.specs.Clashes.{word_at};
+ghost use Rattle.std.specs.Prelude.{◌≡◌, ◌<◌, ℕ, IfSome, None, codes, true, false, length};
+ghost use Rattle.command_words.specs.Clashes.{Clashes, IsOther, IsOtherWord, MayBeOne, MayTell};
+ghost use Rattle.command_words.specs.Clashes.{NoneClash, name_of};
+ghost use Rattle.command_words.specs.Pipes.{word_at};
 ghost use Rattle.command_words.specs.declared.clashes.OtherName.{OtherName};
 
 use crate::named_file::{NamedFile, Names, are_one};
+use crate::pipes::ReportOn;
 use crate::word_places::{WordPlaces, read_places};
 use plain_text::Text;
 
@@ -29,18 +30,18 @@ pub struct Clash {
 }
 
 /// A name of an output or of a tap whose file has another name, too: that of a further file of the command, of standard
-/// output, or of standard error. None where there is no such name.
+/// output, if the report stands there, or of standard error. None where there is no such name.
 ///
 /// Which names are of one file, `names` tells; the device that keeps nothing may have any number of names. A file that
 /// is not there yet, in a folder that can't be told, is not seen.
-pub fn one_file<N: Names>(names: &N, words: &[Text]) -> Option<Clash>
-    ensures found { IfSome result (Clashes (N.may names.now) words.now) }
-    ensures none { result ≡ None → NoneClash (N.may names.now) words.now }
+pub fn one_file<N: Names>(names: &N, words: &[Text], report: ReportOn) -> Option<Clash>
+    ensures found { IfSome result (Clashes (N.may names.now) words.now report) }
+    ensures none { result ≡ None → NoneClash (N.may names.now) words.now report }
 {
     let places = read_places(words);
     for written in 0..words.len() {
         if places.is_written(written) {
-            if let Some(other) = find_other(names, words, places, written) {
+            if let Some(other) = find_other(names, words, places, report, written) {
                 return Some(Clash { written, other });
             }
         }
@@ -53,25 +54,37 @@ fn find_other<N: Names>(
     names: &N,
     words: &[Text],
     places: WordPlaces,
+    report: ReportOn,
     written: usize,
 ) -> Option<OtherName>
     requires { written < length words.now }
-    ensures found { IfSome result (λ other. IsOther words.now places written other
+    ensures found { IfSome result (λ other. IsOther words.now places report written other
         × MayTell (N.may names.now) (word_at words.now written) (name_of words.now other) true) }
-    ensures none { result ≡ None → (other : OtherName) → IsOther words.now places written other
+    ensures none { result ≡ None → (other : OtherName)
+        → IsOther words.now places report written other
         → MayTell (N.may names.now) (word_at words.now written) (name_of words.now other) false }
 {
     let file = names.tell_file(words[written].as_str());
     if let Some(place) = find_word(names, words, places, written, &file) {
         return Some(OtherName::Word(place));
     }
-    if is_name_of(names, &file, "/dev/stdout") {
+    if is_report(names, &file, report) {
         return Some(OtherName::Output);
     }
     if is_name_of(names, &file, "/dev/stderr") {
         return Some(OtherName::Errors);
     }
     None
+}
+
+/// Whether the report stands on standard output, and that is this file.
+fn is_report<N: Names>(names: &N, file: &NamedFile, report: ReportOn) -> bool
+    ensures found { result ≡ true → (report ≡ ReportOn.Output)
+        × MayBeOne (N.may names.now) file.now (codes "/dev/stdout") true }
+    ensures none { result ≡ false → report ≡ ReportOn.Output
+        → MayBeOne (N.may names.now) file.now (codes "/dev/stdout") false }
+{
+    report == ReportOn::Output && is_name_of(names, file, "/dev/stdout")
 }
 
 /// The place of another word that names this file.
@@ -82,10 +95,10 @@ fn find_word<N: Names>(
     written: usize,
     file: &NamedFile,
 ) -> Option<usize>
-    ensures found { IfSome result (λ place. IsOther words.now places written (OtherName.Word place)
+    ensures found { IfSome result (λ place. IsOtherWord words.now places written place
         × MayBeOne (N.may names.now) file.now (word_at words.now place) true) }
     ensures none { result ≡ None → (place : ℕ)
-        → IsOther words.now places written (OtherName.Word place)
+        → IsOtherWord words.now places written place
         → MayBeOne (N.may names.now) file.now (word_at words.now place) false }
 {
     for place in 0..words.len() {

@@ -8,6 +8,7 @@
 mod clashes;
 mod faults;
 mod named_file;
+mod pipes;
 mod printing;
 mod request;
 mod system_files;
@@ -21,6 +22,7 @@ mod words;
 pub use clashes::{Clash, OtherName, one_file};
 pub use job_commands::{Status, StatusText};
 pub use named_file::{NamedFile, Names, Node};
+pub use pipes::{Piped, ReportOn, name_streams};
 pub use printing::{asks_text, read_text};
 pub use request::{Request, read_request};
 pub use telling::{tell_drops, tell_more};

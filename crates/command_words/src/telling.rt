@@ -23,6 +23,7 @@ use self::forms::Grammar;
 use self::shown::Shown;
 use crate::clashes::{Clash, OtherName, one_file};
 use crate::faults::{box_file, faulty_name, second_box};
+use crate::pipes::{ReportOn, name_streams};
 use crate::word_places::read_line;
 use hand_faults::{HandCause, HandFault};
 use job_commands::{Command, InputFault, Status, read_command};
@@ -32,19 +33,36 @@ use schedule_check::Refutation;
 use std::io;
 use std::rt::Files;
 
+/// What is told where two inputs are `-`.
+const READ_TWICE: &str = "standard input can be read once: two inputs are `-`";
+
 /// Tells in a further line on standard error, after the text of the status, what helps: which two
-/// words name one file, or that an output is the file of a standard stream, which command was meant
-/// and how it is called, which input is not there or which output can't be written and what the
-/// system says of it, what stands where an input leaves its grammar. Where a box file makes no
-/// sense, though it is right by its grammar, this is told too, whatever the status, and so is a
-/// handover that is gone on from and has no seal.
+/// words name one file, or that an output is the file of a standard stream, or that two inputs are
+/// standard input, which command was meant and how it is called, which input is not there or which
+/// output can't be written and what the system says of it, what stands where an input leaves its
+/// grammar. Where a box file makes no sense, though it is right by its grammar, this is told too,
+/// whatever the status, and so is a handover that is gone on from and has no seal.
 pub fn tell_more<R: AllocGlobal + Files + Eprint>(
     rt: &R,
     words: &[Text],
     status: Status,
 ) -> io::Result<()> {
+    match name_streams(rt.alloc(), words) {
+        Ok(piped) => tell_of_words(rt, piped.words.as_slice(), piped.report, status),
+        Err(Status::BadWords) => tell(rt, Some(Advice::Text(READ_TWICE))),
+        Err(_) => Ok(()),
+    }
+}
+
+/// The same, where the words have the names of the streams.
+fn tell_of_words<R: AllocGlobal + Files + Eprint>(
+    rt: &R,
+    words: &[Text],
+    report: ReportOn,
+    status: Status,
+) -> io::Result<()> {
     match status {
-        Status::BadWords => tell(rt, Some(advise_words(rt, words))),
+        Status::BadWords => tell(rt, Some(advise_words(rt, words, report))),
         Status::ReadFault => unread::tell_unread(rt, words),
         Status::WriteFault => written::tell_unwritten(rt, words),
         Status::BadInput(fault) => tell_fault(rt, words, fault),
@@ -61,8 +79,12 @@ pub fn tell_more<R: AllocGlobal + Files + Eprint>(
 }
 
 /// Which name is not to be that of a file which is written, or which command was meant.
-fn advise_words<'a, R: AllocGlobal + Files>(rt: &R, words: &'a [Text]) -> Advice<'a> {
-    match one_file(rt, words) {
+fn advise_words<'a, R: AllocGlobal + Files>(
+    rt: &R,
+    words: &'a [Text],
+    report: ReportOn,
+) -> Advice<'a> {
+    match one_file(rt, words, report) {
         Some(clash) => advise_clash(words, clash),
         None => calls::advise(words),
     }

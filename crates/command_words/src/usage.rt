@@ -150,7 +150,9 @@ for QUOTA packets at most, as they are read.
 ";
 
 pub const GENERAL: &str = "\
-The report is written on standard output.
+The report is written on standard output. `-` is standard input in place of a
+file that is read, and standard output in place of one that is written; the
+report is then written on standard error. A file named `-` is `./-`.
 
 `ftmb COMMAND --help`, or -h, prints what is said here of that command alone.
 

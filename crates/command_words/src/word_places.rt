@@ -1,8 +1,8 @@
-ghost use Rattle.std.specs.Prelude.{◌≡◌, length};
+ghost use Rattle.std.specs.Prelude.{◌≡◌, ◌+◌, ◌*◌, ◌<◌, ◌^◌, length};
 ghost use Rattle.job_commands.specs.Words.{asked, asked_of, inputs_of};
 ghost use Rattle.packet_taps.specs.Words.{watch_names};
 ghost use Rattle.command_words.specs.WordPlaces.{ArePlaces, IsLine, is_file, is_input, is_written};
-ghost use Rattle.command_words.specs.WordPlaces.{outputs_of, plain_places};
+ghost use Rattle.command_words.specs.WordPlaces.{outputs_of, plain_places, tapped_places};
 
 use job_commands::{Command, read_command};
 use packet_taps::read_watch_words;
@@ -21,6 +21,19 @@ pub struct WordPlaces {
 }
 
 impl WordPlaces {
+    /// Where the names stand after so many pairs of `tap` and a name: a run has three inputs, and all its further words
+    /// are names of outputs.
+    pub fn after_taps(pairs: usize) -> Self
+        requires { 2 * pairs + 4 < 2 ^ 64 }
+        ensures { result ≡ tapped_places pairs }
+    {
+        WordPlaces {
+            start: 2 * pairs,
+            inputs: 3,
+            outputs_from: 2 * pairs + 4,
+        }
+    }
+
     /// Whether the word at this place is the name of a file that is written: of a tap or of an output.
     pub fn is_written(self, place: usize) -> bool
         ensures { result ≡ is_written self place }
@@ -64,7 +77,8 @@ pub fn read_places(words: &[Text]) -> WordPlaces
     }
 }
 
-fn read_plain_places(words: &[Text]) -> WordPlaces
+/// The same of words without taps.
+pub fn read_plain_places(words: &[Text]) -> WordPlaces
     ensures { result ≡ plain_places (length words.now) (asked words.now) (watch_names words.now) }
 {
     let Some(command) = read_command(words) else {

@@ -12,7 +12,7 @@
 //! All other lines are for whoever reads the session.
 #![tactic(auto)]
 
-use command_line::{Status, StatusText, one_file, read_words, run_words};
+use command_line::{Status, StatusText, name_streams, one_file, read_words, run_words};
 use plain_text::Text;
 use std::alloc::{AllocError, Global};
 use std::env::Args;
@@ -42,7 +42,12 @@ fn perform_words<R: AllocGlobal + Files + Print + Threads + Wait + Sync>(
     rt: &R,
     words: &[Text],
 ) -> Status {
-    if one_file(rt, words).is_some() {
+    let piped = match name_streams(rt.alloc(), words) {
+        Ok(piped) => piped,
+        Err(status) => return status,
+    };
+    let words = piped.words.as_slice();
+    if one_file(rt, words, piped.report).is_some() {
         return Status::BadWords;
     }
     let world = Told::of(RealWorld::new(rt.alloc(), rt, Silence));

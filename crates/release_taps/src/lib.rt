@@ -14,6 +14,6 @@ mod tap_world;
 
 pub use memory_tap::MemoryTap;
 pub use seat::Seat;
-pub use split::{MOST_TAPS, Split, mirrored_name, run_line, split_taps};
+pub use split::{MOST_TAPS, Split, count_pairs, mirrored_name, run_line, split_taps};
 pub use tap::{Shown, Tap};
 pub use tap_world::{Seating, TapWorld, Untapped};

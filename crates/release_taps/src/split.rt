@@ -52,7 +52,7 @@ fn is_tap(words: &[Text], place: usize) -> bool
 }
 
 /// How many pairs of `tap` and another word stand in front.
-fn count_pairs(words: &[Text]) -> usize
+pub fn count_pairs(words: &[Text]) -> usize
     ensures within { 2 * result ≤ length words.now }
     ensures taps { (k : ℕ) → k < result → slice_get words.now (2 * k) ≡ Some (codes "tap") }
     ensures last { 2 * result + 1 < length words.now

@@ -5,7 +5,8 @@
 //! is proved. That the bytes a call moved are those of the named file is not, and no proof can
 //! reach it: it is trusted that std's files and the system's do what they say, that `open` reads a
 //! name from its first byte, that `create` makes a name's bytes empty or adds the name, that `read`
-//! takes what follows, and that `write` appends what it says it took.
+//! takes what follows, and that `write` appends what it says it took. A piece of the report whose pipe is closed counts
+//! as taken, though nothing of it was written.
 #![tactic(auto)]
 
 mod notice;

@@ -8,16 +8,24 @@ ghost use Rattle.world_io.specs.World.{GivesCreated, FilledNothing, is_writable}
 ghost use Rattle.world_real.specs.Real.{IsUnused, file_at, held_at, left_at, real_ledger};
 
 use crate::notice::Notice;
-use crate::pieces::{read_some, write_some};
+use crate::pieces::{count_report, read_some, write_some};
 use crate::real_file::RealFile;
 use plain_text::Text;
 use std::alloc::Global;
+use std::fs::{self, OpenOptions};
+use std::io::{self, Write};
 use std::marker::Model;
 use std::rt::Files;
-use std::{fs, io};
 use world_io::{Filled, OpenFault, Put, World};
 
-/// The files of the system, by their paths, and standard output as the report.
+/// The name of standard output.
+const STDOUT: &str = "/dev/stdout";
+
+/// The files of the system, by their paths, and standard output as the report, or standard error, where the notice
+/// prints it there. A piece of the report whose pipe is closed counts as taken, though nothing of it was written
+/// (`count_report`): that nobody reads the report is no fault.
+///
+/// `/dev/stdout` is written after what it has: of a file that standard output appends to nothing is taken away.
 ///
 /// It shows no bytes, by no beginning: contracts see the numbers that it gave, which count from 1
 /// and are given once, the names of the opened files, in order, and how often reading and writing
@@ -63,6 +71,26 @@ impl<R: Files + Print + Drop, N: Notice + Drop> RealWorld<R, N> {
             read_faults: 0,
             write_faults: 0,
         }
+    }
+
+    /// Prints a piece of the report.
+    fn report(&mut self, piece: &[u8]) -> Put
+        ensures count { PutCount result (length piece.now) }
+        ensures memory { result ≢ Put.NoMemory }
+        ensures rest { self.new ≡ self.old }
+    {
+        match self.notice.report(piece) {
+            Some(put) => put,
+            None => count_report(io::writer(&self.rt).write(piece), piece.len()),
+        }
+    }
+
+    /// The file of this name, to be written from its first byte; standard output after what it has.
+    fn create(&self, name: &str) -> io::Result<R::File> {
+        if name == STDOUT {
+            return OpenOptions::new().append(true).open(&self.rt, name);
+        }
+        fs::create(&self.rt, name)
     }
 
     /// Counts a fault of writing.
@@ -178,7 +206,7 @@ impl<R: Files + Print + Drop, N: Notice + Drop> World for RealWorld<R, N> {
         if self.files.reserve(1).is_err() {
             return Err(OpenFault::NoMemory);
         }
-        let Ok(file) = fs::create(&self.rt, name.as_str()) else {
+        let Ok(file) = self.create(name.as_str()) else {
             self.write_faults = self.write_faults.saturating_add(1);
             return Err(OpenFault::Failed);
         };
@@ -199,7 +227,7 @@ impl<R: Files + Print + Drop, N: Notice + Drop> World for RealWorld<R, N> {
         ensures memory { result ≢ Put.NoMemory }
     {
         if file == 0 {
-            return match write_some(&mut io::writer(&self.rt), piece) {
+            return match self.report(piece) {
                 Put::Failed => self.write_fault(),
                 put => self.took(put),
             };

@@ -25,9 +25,10 @@ const EMPTY: &str = ": nothing was written to it: its disk may be full";
 /// What is told where no output is at fault by its name.
 const DISK: &str = "no output is at fault by its name: a disk may be full";
 
-/// The same where standard output is a pipe, or can't be told.
+/// The same where standard output is a pipe, or can't be told: an output may be that pipe. (That nobody reads the
+/// report is no fault.)
 const DISK_OR_READER: &str =
-    "no output is at fault by its name: a disk is full, or nobody reads the report";
+    "no output is at fault by its name: a disk is full, or nobody reads an output";
 
 /// What is in the way of an output.
 #[derive(Drop)]
@@ -154,8 +155,7 @@ fn is_closed(mode: u32, owns: bool, shares: bool) -> bool {
     mode & bits == 0
 }
 
-/// Tells what is left where no output is at fault by its name: standard output, on which the report is written, or a
-/// disk.
+/// Tells what is left where no output is at fault by its name: standard output, or a disk.
 fn tell_report<R: Files + Eprint>(rt: &R) -> io::Result<()> {
     if let Ok(about) = Path::new("/dev/stdout").metadata(rt) {
         if is_full(&about) {

@@ -16,10 +16,9 @@ returns-clause-none g c none other is =
       by_name other is,
     )
   where
-    by_name : (other : OtherName) → IsOther c.args.words.now c.args.places c.args.written other
+    by_name : (other : OtherName) → IsOther c.args.words.now c.args.places c.args.report c.args.written other
         → MayBeOne (g.N.Names.may c.args.names.now) c.tell_file-file.result (name_of c.args.words.now other) false
     by_name (Word place) is = c.find_word.ensures.none c.in_default.is place is
-    by_name Output is =
-        let told = c.is_name_of.ensures in (told.0, told.1, told.2 ∙ c.if-is_name_of.false)
+    by_name Output is = c.is_report.ensures.none c.if-is_report.false is
     by_name Errors is =
-        let told = c.is_name_of-2.ensures in (told.0, told.1, told.2 ∙ c.if-is_name_of-2.false)
+        let told = c.is_name_of.ensures in (told.0, told.1, told.2 ∙ c.if-is_name_of.false)

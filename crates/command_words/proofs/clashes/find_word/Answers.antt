@@ -1,8 +1,8 @@
 use Rattle.std.proofs.Common.{◌∙◌, ℕ, List, [], false, subst}
 use Rattle.std.proofs.lemmas.List.{get_or_read}
 use borrow.Author.Count.{below_more}
-use Rattle.command_words.specs.Clashes.{IsOther, MayBeOne, word_at}
-use Rattle.command_words.specs.declared.clashes.OtherName.TheVariants.{Word}
+use Rattle.command_words.specs.Clashes.{IsOtherWord, MayBeOne}
+use Rattle.command_words.specs.Pipes.{word_at}
 use Rattle.command_words.proofs.clashes.find_word.Goals as goal
 use Rattle.command_words.proofs.clashes.find_word.Goals.{else-place-written-via-then-place-written+then-is_file+else-is_name_of}
 use Rattle.command_words.proofs.clashes.find_word.Goals.{else-place-written-via-then-place-written+else-is_file}
@@ -12,7 +12,7 @@ pub loop-place-preserved : goal.loop-place-preserved
 loop-place-preserved g c =
     let words = c.args.words.now in
     let place = c.loop-place.place in
-    below_more (λ k. IsOther words c.args.places c.args.written (Word k)
+    below_more (λ k. IsOtherWord words c.args.places c.args.written k
     → MayBeOne (g.N.Names.may c.args.names.now) c.args.file.now (word_at words k) false) place c.loop-place.invariant
     (λ other. elim c.else-place-written.branch [
       | else-place-written-via-then-place-written+then-is_file+else-is_name_of w ↦

@@ -1,7 +1,8 @@
 use Rattle.std.proofs.Common.{ℕ, false}
 use Rattle.std.specs.Prelude.{IsTrue}
 use borrow.Author.Count.{below_more}
-use Rattle.command_words.specs.Clashes.{IsOther, MayTell, name_of, word_at}
+use Rattle.command_words.specs.Clashes.{IsOther, MayTell, name_of}
+use Rattle.command_words.specs.Pipes.{word_at}
 use Rattle.command_words.specs.WordPlaces.{is_written}
 use Rattle.command_words.proofs.clashes.one_file.Goals as goal
 use Rattle.command_words.proofs.clashes.one_file.Goals.{then-is_written+in_default, else-is_written}
@@ -10,7 +11,7 @@ pub loop-written-preserved : goal.loop-written-preserved
 loop-written-preserved g c written other within =
     let words = c.args.words.now in
     let places = c.read_places-places.result in
-    below_more (λ k. IsTrue (is_written places k) → IsOther words places k other
+    below_more (λ k. IsTrue (is_written places k) → IsOther words places c.args.report k other
     → MayTell (g.N.Names.may c.args.names.now) (word_at words k) (name_of words other) false) c.loop-written.written
     (λ k less. c.loop-written.invariant k other less)
     (λ named is. elim c.if-is_written.branch [
