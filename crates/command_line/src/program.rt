@@ -15,7 +15,9 @@ ghost use Rattle.world_told.specs.Orderly.{are_orderly};
 ghost use Rattle.world_told.specs.Sent.{name_of, sent_to};
 
 use crate::{RealTap, SilentWorld, exit_of, run_words};
-use command_words::{Clash, Names, ReportOn, name_streams, one_file, read_words, tell_more};
+use command_words::{
+    Clash, Names, ReportOn, name_streams, one_file, read_words, tell_drops, tell_more,
+};
 use job_commands::{Status, StatusText};
 use plain_text::Text;
 use release_taps::Seat;
@@ -172,7 +174,7 @@ pub fn run_arguments<
     let world = Told::of(RealWorld::new(rt.alloc(), rt, line));
     let out = Told::of(RealWorld::new(rt.alloc(), rt, Silence));
     let run = run_words(rt, piped.words.as_slice(), world, out, clock, &OpenGate);
-    end_line(errors);
+    end_on_terminal(rt, errors, piped.words.as_slice(), run.status);
     Ended {
         code: end_more(rt, typed.as_slice(), run.status),
         status: run.status,
@@ -214,10 +216,19 @@ fn end_at_once<'a, R: AllocGlobal + Files + Print, C: Clock, E: Eprint + IsTermi
     }
 }
 
-/// Takes a line of progress away, where there may be one.
-fn end_line<E: Eprint + IsTerminal>(errors: &E) {
-    if errors.is_terminal() {
-        let _ = errors.eprint(CLEAR_LINE);
+/// On a terminal a line of progress is taken away, where there may be one, and what a run dropped is told.
+fn end_on_terminal<R: AllocGlobal + Files + Eprint, E: Eprint + IsTerminal>(
+    rt: &R,
+    errors: &E,
+    words: &[Text],
+    status: Status,
+) {
+    if !errors.is_terminal() {
+        return;
+    }
+    let _ = errors.eprint(CLEAR_LINE);
+    if status == Status::Done {
+        let _ = tell_drops(rt, words);
     }
 }
 
