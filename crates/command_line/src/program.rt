@@ -174,7 +174,8 @@ pub fn run_arguments<
     let world = Told::of(RealWorld::new(rt.alloc(), rt, line));
     let out = Told::of(RealWorld::new(rt.alloc(), rt, Silence));
     let run = run_words(rt, piped.words.as_slice(), world, out, clock, &OpenGate);
-    end_on_terminal(rt, errors, piped.words.as_slice(), run.status);
+    let idle = run.world.world().notice().idle_events();
+    end_on_terminal(rt, errors, piped.words.as_slice(), run.status, idle);
     Ended {
         code: end_more(rt, typed.as_slice(), run.status),
         status: run.status,
@@ -216,17 +217,22 @@ fn end_at_once<'a, R: AllocGlobal + Files + Print, C: Clock, E: Eprint + IsTermi
     }
 }
 
-/// On a terminal a line of progress is taken away, where there may be one, and what a run dropped is told.
+/// On a terminal a line of progress is taken away, where there may be one, and it is told how many events did nothing and
+/// what a run dropped.
 fn end_on_terminal<R: AllocGlobal + Files + Eprint, E: Eprint + IsTerminal>(
     rt: &R,
     errors: &E,
     words: &[Text],
     status: Status,
+    idle: u64,
 ) {
     if !errors.is_terminal() {
         return;
     }
     let _ = errors.eprint(CLEAR_LINE);
+    if idle > 0 {
+        let _ = eprintln!(errors; "events that did nothing (none or down): {idle}");
+    }
     if status == Status::Done {
         let _ = tell_drops(rt, words);
     }

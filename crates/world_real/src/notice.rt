@@ -17,6 +17,9 @@ pub trait Notice {
     /// This many bytes more were written.
     fn wrote(&mut self, count: usize);
 
+    /// This piece of the report was taken.
+    fn reported(&mut self, piece: &[u8]);
+
     /// Prints a piece of the report, where the report stands on standard error; none where it stands on standard
     /// output. A piece that nobody reads counts as taken (`count_report`).
     fn report(&mut self, piece: &[u8]) -> Option<Put>
@@ -34,6 +37,8 @@ impl Notice for Silence {
 
     fn wrote(&mut self, _count: usize) {}
 
+    fn reported(&mut self, _piece: &[u8]) {}
+
     fn report(&mut self, _piece: &[u8]) -> Option<Put> {
         None
     }
@@ -46,6 +51,8 @@ impl Notice for Silence {
 /// Where standard output is a file that is written, the report stands on standard error, and no progress is shown.
 ///
 /// The line ends with a carriage return: what is printed next stands in its place.
+///
+/// Where standard error is a terminal, the events of the report that did nothing are counted, too.
 #[derive(Drop)]
 pub struct ProgressLine<'a, C: Clock, E: Eprint> {
     clock: &'a C,
@@ -55,6 +62,8 @@ pub struct ProgressLine<'a, C: Clock, E: Eprint> {
     began: u64,
     due: u64,
     written: u64,
+    counts: bool,
+    ends: LineEnds,
 }
 
 impl<'a, C: Clock, E: Eprint + IsTerminal> ProgressLine<'a, C, E> {
@@ -63,15 +72,53 @@ impl<'a, C: Clock, E: Eprint + IsTerminal> ProgressLine<'a, C, E> {
         ensures { result.reports ≡ reports }
     {
         let began = clock.now();
+        let counts = to.is_terminal();
         ProgressLine {
             clock,
             to,
-            shown: !reports && to.is_terminal(),
+            shown: !reports && counts,
             reports,
             began,
             due: began.saturating_add(SECOND),
             written: 0,
+            counts,
+            ends: LineEnds {
+                last: [0; 5],
+                idle: 0,
+            },
         }
+    }
+}
+
+impl<'a, C: Clock, E: Eprint> ProgressLine<'a, C, E> {
+    /// How many events of the report did nothing: `none` or `down` came of them. It is 0 where standard error is no
+    /// terminal.
+    pub fn idle_events(&self) -> u64 {
+        self.ends.idle
+    }
+}
+
+/// The last bytes of the lines of a report, which comes in pieces.
+#[derive(Drop)]
+struct LineEnds {
+    /// The last bytes of the line so far.
+    last: [u8; 5],
+    /// How many lines told of an event that did nothing.
+    idle: u64,
+}
+
+impl LineEnds {
+    /// One more byte of the report.
+    fn read(&mut self, byte: u8) {
+        if byte != b'\n' {
+            let [_, second, third, fourth, fifth] = self.last;
+            self.last = [second, third, fourth, fifth, byte];
+            return;
+        }
+        if self.last == *b" none" || self.last == *b" down" {
+            self.idle = self.idle.saturating_add(1);
+        }
+        self.last = [0; 5];
     }
 }
 
@@ -91,6 +138,15 @@ impl<'a, C: Clock, E: Eprint> Notice for ProgressLine<'a, C, E> {
         let seconds = now.saturating_sub(self.began) / SECOND;
         let bytes = self.written;
         let _ = eprint!(self.to; "ftmb: {seconds} s, {bytes} bytes written\r");
+    }
+
+    fn reported(&mut self, piece: &[u8]) {
+        if !self.counts {
+            return;
+        }
+        for byte in piece {
+            self.ends.read(*byte);
+        }
     }
 
     fn report(&mut self, piece: &[u8]) -> Option<Put> {

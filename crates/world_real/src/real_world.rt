@@ -73,16 +73,25 @@ impl<R: Files + Print + Drop, N: Notice + Drop> RealWorld<R, N> {
         }
     }
 
-    /// Prints a piece of the report.
+    /// What is told while a command runs.
+    pub fn notice(&self) -> &N {
+        &self.notice
+    }
+
+    /// Prints a piece of the report, and tells the notice what was taken of it.
     fn report(&mut self, piece: &[u8]) -> Put
         ensures count { PutCount result (length piece.now) }
         ensures memory { result ≢ Put.NoMemory }
         ensures rest { self.new ≡ self.old }
     {
-        match self.notice.report(piece) {
+        let put = match self.notice.report(piece) {
             Some(put) => put,
             None => count_report(io::writer(&self.rt).write(piece), piece.len()),
+        };
+        if let Put::Took(count) = put {
+            self.notice.reported(&piece[..count]);
         }
+        put
     }
 
     /// The file of this name, to be written from its first byte; standard output after what it has.

@@ -45,6 +45,13 @@ impl<W: World> Told<W> {
         }
     }
 
+    /// The world below, which stays there.
+    pub fn world(&self) -> &W
+        ensures { result.now ≡ self.now.world }
+    {
+        &self.inner
+    }
+
     /// The world below.
     pub fn into_inner(self) -> W
         ensures { result ≡ self.world }
