@@ -1,4 +1,4 @@
-use Rattle.std.proofs.Common.{rules, arith, refl}
+use Rattle.std.proofs.Common.{rules, ◌≡◌, ◌∷◌, ◌++◌, [], arith, refl}
 use Rattle.plain_text.specs.declared.limit.TheConstants.{MOST_EVENTS}
 use Rattle.plain_text.proofs.WholeFiles.{count_is_length, faulty, more, passes}
 use Rattle.plain_player.specs.Schedules.{schedule_form}
