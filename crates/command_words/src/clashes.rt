@@ -32,7 +32,7 @@ pub struct Clash {
 /// A name of an output or of a tap whose file has another name, too: that of a further file of the command, of standard
 /// output, if the report stands there, or of standard error. None where there is no such name.
 ///
-/// Which names are of one file, `names` tells; the device that keeps nothing may have any number of names. A file that
+/// Which names are of one file, `names` tells; a device that keeps nothing may have any number of names. A file that
 /// is not there yet, in a folder that can't be told, is not seen.
 pub fn one_file<N: Names>(names: &N, words: &[Text], report: ReportOn) -> Option<Clash>
     ensures found { IfSome result (Clashes (N.may names.now) words.now report) }

@@ -21,7 +21,7 @@ pub struct NamedFile {
     /// Its path with no link in it, where that can be told: of a file that is there, or that is to be in a folder that
     /// is there.
     pub path: Option<Text>,
-    /// It is the device that keeps nothing of what is written to it, `/dev/null`.
+    /// It is a device that keeps nothing of what is written to it: `/dev/null`, or a terminal.
     pub keeps_nothing: bool,
 }
 

@@ -8,6 +8,10 @@ use std::rt::Files;
 /// The number of the device that keeps nothing, `/dev/null`: major 1, minor 3 (Linux, admin-guide/devices).
 const NULL_DEVICE: u64 = 0x103;
 
+/// The majors of terminals: virtual consoles and serial lines, `/dev/tty` and consoles, and the first and last of
+/// pseudo-terminals (Linux, admin-guide/devices).
+const TERMINALS: [u64; 4] = [4, 5, 136, 143];
+
 /// How many links are followed one after another. Linux follows no more (path_resolution(7)).
 const MOST_LINKS: u32 = 40;
 
@@ -40,7 +44,15 @@ impl<R: AllocGlobal + Files> Names for R {
 }
 
 fn keeps_nothing(about: &Metadata) -> bool {
-    about.file_type().is_char_device() && about.rdev() == NULL_DEVICE
+    let device = about.rdev();
+    about.file_type().is_char_device() && (device == NULL_DEVICE || is_terminal(device))
+}
+
+/// Whether the number of a device is that of a terminal, by its major: twelve bits from bit 8 on.
+fn is_terminal(device: u64) -> bool {
+    let major = (device >> 8) & 0xfff;
+    let [console, controlling, first, last] = TERMINALS;
+    major == console || major == controlling || (first <= major && major <= last)
 }
 
 /// The path of a file with no link in it: of one that is there; or of one that is to be, in a folder that is there.
