@@ -23,13 +23,17 @@ build/ftmb: $(SOURCES)
 build/bench: $(SOURCES)
 	scripts/build $(RT) bench
 
-# The example by the kit's unproved run, in two to three minutes each time: nothing is proved.
-try:
-	scripts/try $(RT) build/try
+# The program compiled by the kit's unproved run, in two to three minutes: nothing is proved.
+build/unproved/ftmb: $(SOURCES) scripts/unproved
+	scripts/unproved $(RT) build/unproved
 
-# The first minute of README, unproved: the NAT of examples/ is drilled.
-first:
-	scripts/first $(RT) build/first
+# The example with it.
+try: build/unproved/ftmb
+	scripts/try build/unproved/ftmb build/try
+
+# The first minute of README with it: the NAT of examples/ is drilled.
+first: build/unproved/ftmb
+	scripts/first build/unproved/ftmb build/first
 
 # Every proof, edit that must fail, test and stored run.
 test:
