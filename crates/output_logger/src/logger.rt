@@ -61,7 +61,7 @@ impl Model for OutputLogger {
 fn is_known(held: &Held, thread: u32, number: u64) -> bool
     ensures { IsTrue result ↔ IsKnown (lane held.now thread) number }
 {
-    number <= held.frontier(thread) || held.get(thread, number).is_some()
+    number <= held.frontier(thread) || held.holds(thread, number)
 }
 
 /// Takes the outputs out of their list, which is empty until they are put back.
