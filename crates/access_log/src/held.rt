@@ -145,6 +145,16 @@ impl Held {
         }
     }
 
+    /// Whether the entry of this thread and number is held or covered.
+    pub fn is_known(&self, thread: u32, number: u64) -> bool
+        ensures { IsTrue result ↔ IsKnown (lane self.now thread) number }
+    {
+        match self.lanes.get(thread as usize) {
+            Some(lane) => lane.is_known(number),
+            None => number == 0,
+        }
+    }
+
     /// Marks each thread's entries up to its count as covered, and drops those held of them: the held entries with
     /// numbers above the counts are left. It takes no memory.
     pub fn cover(&mut self, counts: &EntryCounts)

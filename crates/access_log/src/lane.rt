@@ -80,6 +80,20 @@ impl Lane {
         self.entries.holds(number)
     }
 
+    /// Whether the entry of this number is held or covered.
+    pub fn is_known(&self, number: u64) -> bool
+        ensures { IsTrue result ↔ IsKnown self.now number }
+    {
+        if number <= self.frontier {
+            return true;
+        }
+        // The entry after the frontier is missing, and mostly it is the one that comes next.
+        if number - 1 == self.frontier {
+            return false;
+        }
+        self.entries.holds(number)
+    }
+
     /// How many entries are held.
     pub fn len(&self) -> usize
         ensures len { result ≡ length self.now.entries }
@@ -95,11 +109,15 @@ impl Lane {
         ensures new { result ≡ Ok Added.New → PutsEntry self.old self.new number entry.now }
         ensures rising { IsRising self.new.covered self.new.entries }
     {
-        if number <= self.entries.covered() || self.entries.holds(number) {
+        let _numbers = self.entries.covered();
+        if self.is_known(number) {
             return Ok(Added::Known);
         }
         self.entries.put(number, entry)?;
-        self.frontier = frontier_after(&self.entries, self.frontier);
+        let _numbers = self.entries.covered();
+        if number - 1 == self.frontier {
+            self.frontier = frontier_after(&self.entries, number);
+        }
         Ok(Added::New)
     }
 
