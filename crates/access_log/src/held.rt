@@ -1,5 +1,5 @@
 ghost use Rattle.std.specs.Prelude.{◌≡◌, ℕ, ◌+◌, ◌-◌, ◌^◌, ◌<◌, ◌≤◌, ◌↔◌, ◌≢◌, List, Option, Some};
-ghost use Rattle.std.specs.Prelude.{None, Ok, IsSome, IfOk, IfSome, MatchOption, length};
+ghost use Rattle.std.specs.Prelude.{None, Ok, IsSome, IsTrue, IfOk, IfSome, MatchOption, length};
 ghost use Rattle.std.specs.Prelude.{replicate, slice_index};
 ghost use Rattle.access_log.specs.Held.{lane, entry_at, fresh_lane, IsKnown, IsFrontier, IsWithin};
 ghost use Rattle.access_log.specs.Held.{IsFirstMissing, IsRising, held_count};
@@ -122,9 +122,8 @@ impl Held {
         ensures counted { result ≡ Ok Added.New → held_count self.new ≡ held_count self.old + 1 }
         ensures threads { length self.new ≡ length self.old }
     {
-        let number = entry.number;
         let lane = &mut self.lanes[entry.thread as usize];
-        lane.add(number, entry)
+        lane.add(entry.number, &entry)
     }
 
     /// The held entry of this thread and number, if there is one; a covered one is not held.
@@ -134,6 +133,26 @@ impl Held {
         ensures above { IsSome result → (lane self.now thread).covered < number }
     {
         self.lanes.get(thread as usize)?.get(number)
+    }
+
+    /// Whether the entry of this thread and number is held; a covered one is not.
+    pub fn holds(&self, thread: u32, number: u64) -> bool
+        ensures { IsTrue result ↔ IsSome (entry_at (lane self.now thread) number) }
+    {
+        match self.lanes.get(thread as usize) {
+            Some(lane) => lane.holds(number),
+            None => false,
+        }
+    }
+
+    /// Whether the entry of this thread and number is held or covered.
+    pub fn is_known(&self, thread: u32, number: u64) -> bool
+        ensures { IsTrue result ↔ IsKnown (lane self.now thread) number }
+    {
+        match self.lanes.get(thread as usize) {
+            Some(lane) => lane.is_known(number),
+            None => number == 0,
+        }
     }
 
     /// Marks each thread's entries up to its count as covered, and drops those held of them: the held entries with

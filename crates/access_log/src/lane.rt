@@ -1,5 +1,5 @@
 ghost use Rattle.std.specs.Prelude.{◌≡◌, ℕ, ◌+◌, ◌-◌, ◌^◌, ◌<◌, ◌≤◌, ◌↔◌, ◌≢◌, List, Option, Some};
-ghost use Rattle.std.specs.Prelude.{None, Ok, IsSome, length, nat_le, if◌then◌else◌};
+ghost use Rattle.std.specs.Prelude.{None, Ok, IsSome, IsTrue, length, nat_le, if◌then◌else◌};
 ghost use Rattle.std.specs.Prelude.{slice_index};
 ghost use Rattle.thread_clock.specs.Clock.{AtMost};
 ghost use Rattle.access_log.specs.Held.{entry_at, fresh_lane, IsKnown, IsFrontier, IsRising};
@@ -40,7 +40,7 @@ fn frontier_after(entries: &Slots, from: u64) -> u64
 {
     let _numbers = entries.covered();
     let mut frontier = from;
-    while frontier < u64::MAX && entries.get(frontier + 1).is_some() {
+    while frontier < u64::MAX && entries.holds(frontier + 1) {
         frontier += 1;
     }
     frontier
@@ -73,6 +73,27 @@ impl Lane {
         self.entries.get(number)
     }
 
+    /// Whether the entry of this number is held.
+    pub fn holds(&self, number: u64) -> bool
+        ensures { IsTrue result ↔ IsSome (entry_at self.now number) }
+    {
+        self.entries.holds(number)
+    }
+
+    /// Whether the entry of this number is held or covered.
+    pub fn is_known(&self, number: u64) -> bool
+        ensures { IsTrue result ↔ IsKnown self.now number }
+    {
+        if number <= self.frontier {
+            return true;
+        }
+        // The entry after the frontier is missing, and mostly it is the one that comes next.
+        if number - 1 == self.frontier {
+            return false;
+        }
+        self.entries.holds(number)
+    }
+
     /// How many entries are held.
     pub fn len(&self) -> usize
         ensures len { result ≡ length self.now.entries }
@@ -82,17 +103,21 @@ impl Lane {
     }
 
     /// Holds this entry as the one of this number, unless that is held or covered.
-    pub fn add(&mut self, number: u64, entry: StampedEntry) -> Result<Added, NoMemory>
+    pub fn add(&mut self, number: u64, entry: &StampedEntry) -> Result<Added, NoMemory>
         ensures known { (result ≡ Ok Added.Known) ↔ IsKnown self.old number }
         ensures same { result ≢ Ok Added.New → self.new ≡ self.old }
-        ensures new { result ≡ Ok Added.New → PutsEntry self.old self.new number entry }
+        ensures new { result ≡ Ok Added.New → PutsEntry self.old self.new number entry.now }
         ensures rising { IsRising self.new.covered self.new.entries }
     {
-        if number <= self.entries.covered() || self.entries.get(number).is_some() {
+        let _numbers = self.entries.covered();
+        if self.is_known(number) {
             return Ok(Added::Known);
         }
         self.entries.put(number, entry)?;
-        self.frontier = frontier_after(&self.entries, self.frontier);
+        let _numbers = self.entries.covered();
+        if number - 1 == self.frontier {
+            self.frontier = frontier_after(&self.entries, number);
+        }
         Ok(Added::New)
     }
 

@@ -1,6 +1,6 @@
 //! Slots that have room for the first components of a stamp.
-ghost use Rattle.std.specs.Prelude.{◌≡◌, ℕ, ◌<◌, ◌≤◌, ◌↔◌, Some, None, IsTrue, MatchOption, length};
-ghost use Rattle.std.specs.Prelude.{slice_index};
+ghost use Rattle.std.specs.Prelude.{◌≡◌, ℕ, ◌<◌, ◌≤◌, ◌↔◌, Some, None, IsSome, IsTrue, MatchOption};
+ghost use Rattle.std.specs.Prelude.{length, slice_index};
 ghost use Rattle.access_log.specs.Narrow.{padded, FitsIn};
 
 use crate::{StampedEntry, What};
@@ -39,12 +39,12 @@ fn is_zero_from(stamp: &Stamp, first: usize) -> bool
     ensures { IsTrue result ↔ ((k : ℕ) → first ≤ k → slice_index stamp.now k ≡ 0) }
 {
     let components = stamp.components();
+    let mut zero = true;
+    // With no early end the compiler compares several components at once.
     for i in first..16 {
-        if components[i] != 0 {
-            return false;
-        }
+        zero = zero && components[i] == 0;
     }
-    true
+    zero
 }
 
 /// The first components.
@@ -101,6 +101,13 @@ impl<const N: usize> NarrowSlot<N> {
             thread: entry.thread,
             components: first_components(&entry.stamp),
         })
+    }
+
+    /// Whether it has an entry.
+    pub fn is_full(&self) -> bool
+        ensures { IsTrue result ↔ IsSome self.now }
+    {
+        self.number != 0
     }
 
     /// Its entry.

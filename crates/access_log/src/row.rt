@@ -1,6 +1,6 @@
 //! Rows of slots. While all stamps have but a few components that are not 0, a slot has room for no more.
-ghost use Rattle.std.specs.Prelude.{◌≡◌, ◌≢◌, ℕ, ◌<◌, ◌≤◌, ◌++◌, ◌∷◌, [], Some, None, Ok, IfOk};
-ghost use Rattle.std.specs.Prelude.{true, is_ok, length, drop, slice_index_or, slice_set};
+ghost use Rattle.std.specs.Prelude.{◌≡◌, ◌≢◌, ℕ, ◌<◌, ◌≤◌, ◌↔◌, ◌++◌, ◌∷◌, [], Some, None, Ok, IfOk};
+ghost use Rattle.std.specs.Prelude.{true, is_ok, IsSome, IsTrue, length, drop, slice_index_or, slice_set};
 ghost use Rattle.std.specs.Prelude.{if◌then◌else◌};
 ghost use Rattle.std.specs.VecDeque.{deque_len};
 ghost use Rattle.access_log.specs.Rows.{row_slots};
@@ -94,6 +94,20 @@ impl Row {
             Row::Four(slots) => slots.len(),
             Row::Eight(slots) => slots.len(),
             Row::Full(slots) => slots.len(),
+        }
+    }
+
+    /// Whether a slot has an entry.
+    pub fn is_full(&self, i: usize) -> bool
+        requires { i < length (row_slots self.now) }
+        ensures { IsTrue result ↔ IsSome (slice_index_or (row_slots self.now) i None) }
+    {
+        match self {
+            Row::One(slots) => slots[i].is_full(),
+            Row::Two(slots) => slots[i].is_full(),
+            Row::Four(slots) => slots[i].is_full(),
+            Row::Eight(slots) => slots[i].is_full(),
+            Row::Full(slots) => slots[i].is_some(),
         }
     }
 

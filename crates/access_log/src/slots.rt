@@ -1,6 +1,6 @@
 ghost use Rattle.std.specs.Prelude.{◌≡◌, ℕ, ◌+◌, ◌-◌, ◌^◌, ◌<◌, ◌≤◌, ◌↔◌, ◌≢◌, ◌++◌, List, Option};
 ghost use Rattle.std.specs.Prelude.{Some};
-ghost use Rattle.std.specs.Prelude.{None, IsSome, OnOk, OnErr, length};
+ghost use Rattle.std.specs.Prelude.{None, IsSome, IfSome, IsTrue, OnOk, OnErr, length};
 ghost use Rattle.std.specs.Prelude.{option_to_list, drop, slice_index_or, nat_le, if◌then◌else◌};
 ghost use Rattle.std.specs.BTreeMap.{get, btree_map_len};
 ghost use Rattle.std.specs.Ordering.{nat_cmp};
@@ -49,6 +49,20 @@ impl Model for Slots {
     } };
 
     ghost invariant = { λ s. IsSlotted s.covered (row_slots s.contiguous) s.out_of_order.entries };
+}
+
+/// The slot of the entry of this number, if there is one, after so many that are covered.
+fn slot_of(covered: u64, contiguous: &Row, number: u64) -> Option<usize>
+    ensures none { result ≡ None
+        → covered < number → number ≤ covered + length (row_slots contiguous.now) → ⊥ }
+    ensures slot { IfSome result (λ i.
+        (i < length (row_slots contiguous.now)) × (number ≡ covered + i + 1)) }
+{
+    let place = number.checked_sub(covered)?.checked_sub(1)?;
+    if place >= contiguous.len() as u64 {
+        return None;
+    }
+    Some(place as usize)
 }
 
 /// Drops the entries up to this number.
@@ -155,10 +169,20 @@ impl Slots {
     pub fn get(&self, number: u64) -> Option<StampedEntry>
         ensures { result ≡ entry_at self.now number }
     {
-        if number <= self.covered || number - self.covered > self.contiguous.len() as u64 {
-            return self.out_of_order.get(&number).copied();
+        match slot_of(self.covered, &self.contiguous, number) {
+            Some(slot) => self.contiguous.get(slot),
+            None => self.out_of_order.get(&number).copied(),
         }
-        self.contiguous.get((number - self.covered - 1) as usize)
+    }
+
+    /// Whether the entry of this number is held.
+    pub fn holds(&self, number: u64) -> bool
+        ensures { IsTrue result ↔ IsSome (entry_at self.now number) }
+    {
+        match slot_of(self.covered, &self.contiguous, number) {
+            Some(slot) => self.contiguous.is_full(slot),
+            None => self.out_of_order.contains_key(&number),
+        }
     }
 
     /// How many entries are held.
@@ -170,27 +194,27 @@ impl Slots {
     }
 
     /// Holds this entry as the one of this number.
-    pub fn put(&mut self, number: u64, entry: StampedEntry) -> Result<(), NoMemory>
+    pub fn put(&mut self, number: u64, entry: &StampedEntry) -> Result<(), NoMemory>
         requires past { self.old.covered < number }
         requires free { entry_at self.old number ≡ None }
-        ensures ok { OnOk result (PutsEntry self.old self.new number entry) }
+        ensures ok { OnOk result (PutsEntry self.old self.new number entry.now) }
         ensures err { OnErr result (self.new ≡ self.old) }
     {
         let place = number - self.covered - 1;
         let slots = self.contiguous.len() as u64;
         if place < slots {
-            self.contiguous.set(place as usize, &entry)?;
+            self.contiguous.set(place as usize, entry)?;
             return Ok(());
         }
         if self.contiguous.len() >= LIMIT - self.out_of_order.len() {
             return Err(NoMemory);
         }
         if place == slots {
-            self.contiguous.push(&entry)?;
+            self.contiguous.push(entry)?;
             gather(self.covered, &mut self.contiguous, &mut self.out_of_order);
             return Ok(());
         }
-        self.out_of_order.insert(number, entry)?;
+        self.out_of_order.insert(number, *entry)?;
         Ok(())
     }
 

@@ -57,13 +57,6 @@ impl Model for OutputLogger {
         AreKept l.threads l.held l.released l.waiting.outputs.entries l.waiting.index.keys };
 }
 
-/// Whether the entry is held or covered.
-fn is_known(held: &Held, thread: u32, number: u64) -> bool
-    ensures { IsTrue result ↔ IsKnown (lane held.now thread) number }
-{
-    number <= held.frontier(thread) || held.get(thread, number).is_some()
-}
-
 /// Takes the outputs out of their list, which is empty until they are put back.
 fn take_items(alloc: Global, out: &mut Outputs) -> Vec<Output>
     ensures { result.items ≡ out.old }
@@ -157,7 +150,7 @@ impl OutputLogger {
         if epoch < self.epoch {
             return Ok(EntryTook::OldEpoch);
         }
-        if is_known(&self.held, entry.thread, entry.number) {
+        if self.held.is_known(entry.thread, entry.number) {
             return Ok(EntryTook::Known);
         }
         if self.waiting.outputs.is_empty() {

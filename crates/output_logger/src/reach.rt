@@ -29,7 +29,7 @@ fn reach(held: &Held, thread: u32, from: u64) -> Result<u64, NoMemory>
 {
     let mut reached = from;
     while reached < u64::MAX {
-        if held.get(thread, reached + 1).is_none() {
+        if !held.holds(thread, reached + 1) {
             return Ok(reached);
         }
         reached += 1;

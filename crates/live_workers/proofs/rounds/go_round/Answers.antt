@@ -34,12 +34,14 @@ note_moves-requires-clause-raced g c κs within =
     c.guide-guide.result.now c.args.rest.now.guide c.inputs-inputs.result.now c.args.rest.now.inputs
     (g.C.Clock.may c.args.clock.now) (c.from.result - c.moves.result + 1) (orders_of c.args.orders.now).moves
     c.args.master c.args.draws c.in_ok-master.field-0.master c.in_ok-master.field-0.marks.items
-    c.in_ok-master.field-0.moves.items c.in_ok-master.field-0.generators.items c.program-program.ensures c.guide-guide.ensures c.inputs-inputs.ensures
+    c.in_ok-master.field-0.moves.items c.in_ok-master.field-0.generators.items c.program-program.ensures
+    c.guide-guide.ensures c.inputs-inputs.ensures
     c.in_ok-master.ensures in
     let r = raced (g.P.Program.meaning c.args.rest.now.program) (g.P.Program.fits c.args.rest.now.program) k.0 k.1
     c.args.rest.now (g.C.Clock.may c.args.clock.now) (c.from.result - c.moves.result + 1)
     (orders_of c.args.orders.now).moves c.args.master c.args.draws c.in_ok-master.field-0.master
-    c.in_ok-master.field-0.marks.items c.in_ok-master.field-0.moves.items c.in_ok-master.field-0.generators.items race k.2 up k.3 in
+    c.in_ok-master.field-0.marks.items c.in_ok-master.field-0.moves.items c.in_ok-master.field-0.generators.items race
+    k.2 up k.3 in
     record {
       s = k.0;
       w = k.1;
@@ -60,12 +62,14 @@ returns-in-Err-clause-stops g c = λ s w rests stands.
     c.guide-guide.result.now c.args.rest.now.guide c.inputs-inputs.result.now c.args.rest.now.inputs
     (g.C.Clock.may c.args.clock.now) (c.from.result - c.moves.result + 1) (orders_of c.args.orders.now).moves
     c.args.master c.args.draws c.in_ok-master.field-0.master c.in_ok-master.field-0.marks.items
-    c.in_ok-master.field-0.moves.items c.in_ok-master.field-0.generators.items c.program-program.ensures c.guide-guide.ensures c.inputs-inputs.ensures
+    c.in_ok-master.field-0.moves.items c.in_ok-master.field-0.generators.items c.program-program.ensures
+    c.guide-guide.ensures c.inputs-inputs.ensures
     c.in_ok-master.ensures in
     let r = raced (g.P.Program.meaning c.args.rest.now.program) (g.P.Program.fits c.args.rest.now.program) s w
     c.args.rest.now (g.C.Clock.may c.args.clock.now) (c.from.result - c.moves.result + 1)
     (orders_of c.args.orders.now).moves c.args.master c.args.draws c.in_ok-master.field-0.master
-    c.in_ok-master.field-0.marks.items c.in_ok-master.field-0.moves.items c.in_ok-master.field-0.generators.items race rests up stands in
+    c.in_ok-master.field-0.marks.items c.in_ok-master.field-0.moves.items c.in_ok-master.field-0.generators.items race
+    rests up stands in
     c.in-Err.ensures.stops s w c.args.master race.round (map seat_of race.courses) c.in_ok-master.field-0.master
     (subst (λ (l : List (List (Option ℕ))).
     Raced (g.P.Program.meaning c.args.rest.now.program) (g.P.Program.fits c.args.rest.now.program) s w c.args.master
@@ -79,12 +83,14 @@ returns-clause-on g c = λ s w rests stands.
     c.guide-guide.result.now c.args.rest.now.guide c.inputs-inputs.result.now c.args.rest.now.inputs
     (g.C.Clock.may c.args.clock.now) (c.from.result - c.moves.result + 1) (orders_of c.args.orders.now).moves
     c.args.master c.args.draws c.in_ok-master.field-0.master c.in_ok-master.field-0.marks.items
-    c.in_ok-master.field-0.moves.items c.in_ok-master.field-0.generators.items c.program-program.ensures c.guide-guide.ensures c.inputs-inputs.ensures
+    c.in_ok-master.field-0.moves.items c.in_ok-master.field-0.generators.items c.program-program.ensures
+    c.guide-guide.ensures c.inputs-inputs.ensures
     c.in_ok-master.ensures in
     let r = raced (g.P.Program.meaning c.args.rest.now.program) (g.P.Program.fits c.args.rest.now.program) s w
     c.args.rest.now (g.C.Clock.may c.args.clock.now) (c.from.result - c.moves.result + 1)
     (orders_of c.args.orders.now).moves c.args.master c.args.draws c.in_ok-master.field-0.master
-    c.in_ok-master.field-0.marks.items c.in_ok-master.field-0.moves.items c.in_ok-master.field-0.generators.items race rests up stands in
+    c.in_ok-master.field-0.marks.items c.in_ok-master.field-0.moves.items c.in_ok-master.field-0.generators.items race
+    rests up stands in
     let came = c.in-Ok.ensures.came s w c.args.master race.round (map seat_of race.courses)
     c.in_ok-master.field-0.master
     (subst (λ (l : List (List (Option ℕ))).
@@ -104,7 +110,8 @@ returns-clause-on g c = λ s w rests stands.
     (rounds (g.P.Program.meaning c.args.rest.now.program) (g.P.Program.fits c.args.rest.now.program) s w
     c.args.rest.now (g.C.Clock.may c.args.clock.now) (c.from.result - c.moves.result + 1)
     (orders_of c.args.orders.now).moves c.args.master c.args.draws c.in_ok-master.field-0.master
-    c.in_ok-master.field-0.marks.items c.in_ok-master.field-0.moves.items c.in_ok-master.field-0.generators.items race rests up stands c.in-Ok.steps.items c.note_moves.new.rest came
+    c.in_ok-master.field-0.marks.items c.in_ok-master.field-0.moves.items c.in_ok-master.field-0.generators.items race
+    rests up stands c.in-Ok.steps.items c.note_moves.new.rest came
     c.has_parts-2.ensures.moves all (orders_of c.args.orders.now) (λ t. refl) c.in_ok-arriving.arriving.items
     (subst (λ (l : List Message). Arrive (orders_of c.args.orders.now) l c.in_ok-arriving.arriving.items) sent
     c.in_ok-arriving.ensures.arrive)

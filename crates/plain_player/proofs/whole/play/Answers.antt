@@ -25,7 +25,8 @@ returns-in-Err g c =
     let fed = c.args.inputs.now in
     let bad : c.step.result ≡ Err c.in-Err.error = search rules in
     rw c.fault_of.ensures (not_made m fed c.args.schedule.now c.loop-index.index
-    (omega (arith, c.loop-index-test.true, c.len-index-end.ensures)) c.at-plain.result none_move (c.at-plain.ensures none_move) c.loop-index.player c.step.new.self
+    (omega (arith, c.loop-index-test.true, c.len-index-end.ensures)) c.at-plain.result none_move
+    (c.at-plain.ensures none_move) c.loop-index.player c.step.new.self
     c.loop-index.emissions c.loop-index.invariant.so_far c.step.result
     (λ inputs threads steps stands given. c.step.ensures.follows inputs threads steps stands
     ((c.input-input.ensures ∙ ap (input_at fed _) c.next_input.ensures) ∙ given)) c.in-Err.error bad)
@@ -36,7 +37,8 @@ loop-index-preserved g c =
     let fed = c.args.inputs.now in
     let good : c.step.result ≡ Ok c.in-Ok.sent = search rules in
     let more = made_more m fed c.args.schedule.now c.loop-index.index
-    (omega (arith, c.loop-index-test.true, c.len-index-end.ensures)) c.at-plain.result none_move (c.at-plain.ensures none_move) c.loop-index.player c.step.new.self
+    (omega (arith, c.loop-index-test.true, c.len-index-end.ensures)) c.at-plain.result none_move
+    (c.at-plain.ensures none_move) c.loop-index.player c.step.new.self
     c.loop-index.emissions c.loop-index.invariant.so_far c.step.result
     (λ inputs threads steps stands given. c.step.ensures.follows inputs threads steps stands
     ((c.input-input.ensures ∙ ap (input_at fed _) c.next_input.ensures) ∙ given)) c.in-Ok.sent good in

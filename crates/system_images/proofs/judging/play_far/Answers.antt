@@ -56,7 +56,8 @@ loop-index-preserved g c =
       fits = search rules;
       made = search rules;
       far = far_more m fed c.args.moves.now c.loop-index.index less c.at-plain.result none_move
-          (c.at-plain.ensures none_move) c.loop-index.player c.step.new.self c.loop-index.bytes c.loop-index.invariant.far c.step.result
+          (c.at-plain.ensures none_move) c.loop-index.player c.step.new.self c.loop-index.bytes
+          c.loop-index.invariant.far c.step.result
           (λ inputs threads steps stands given. c.step.ensures.follows inputs threads steps stands
           ((c.input-input.ensures ∙ ap (input_at fed _) c.next_input.ensures) ∙ given)) c.in-Ok.sent good _
           (c.saturating_add-bytes.ensures ∙ ap (λ n. min (c.loop-index.bytes + n) (2 ^ 64 - 1)) c.size_of.ensures);

@@ -33,5 +33,6 @@ returns-clause-worked g c = go c.work_in.result c.work_in.ensures.worked
           ap (λ (l : List (ℕ × VarPart g.row.P-Value.Denot)). (c.args.access.var, c.work_in.new.slot) ∷ rest l) is,
           subst (λ (z : VarPart g.row.P-Value.Denot).
               WorksBy (g.P.Program.meaning c.args.program.now) c.args.access.thread c.args.access.var c.args.access.read
-              c.args.access.place c.args.part.now c.work_in.new.part e z c.work_in.new.slot) (c.slot.view_is ∙ first_same same) done,
+              c.args.access.place c.args.part.now c.work_in.new.part e z c.work_in.new.slot)
+              (c.slot.view_is ∙ first_same same) done,
         )

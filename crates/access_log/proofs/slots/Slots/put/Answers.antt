@@ -13,7 +13,7 @@ returns-then-place-slots-clause-ok c =
     let within : i < length (row_slots s.contiguous) = omega (arith, c.if-place-slots.true, c.len-slots.ensures) in
     let free = rw (← c.self.view_is) at c.requires.free in
     rw (← c.self.view_is, c.in_ok-set.ensures.items) (PutsEntry-slot s.covered (row_slots s.contiguous)
-    s.out_of_order.entries c.args.number i c.args.entry c.self.invariant (omega arith) within free)
+    s.out_of_order.entries c.args.number i c.args.entry.now c.self.invariant (omega arith) within free)
 
 pub gather-requires : goal.gather-requires
 gather-requires c =
@@ -27,7 +27,7 @@ gather-requires c =
     sym (at-past s.covered (row_slots s.contiguous) s.out_of_order.entries c.args.number (omega arith)) ∙ free in
     let out_of_order : c.len-2.result ≡ length s.out_of_order.entries = c.len-2.ensures.len in
     rw c.in_ok-push.ensures.items (IsSlotted-pushed s.covered (row_slots s.contiguous) s.out_of_order.entries
-    c.args.number c.args.entry c.self.invariant place (omega arith) none (omega (arith, c.if-len.false, c.len.ensures)))
+    c.args.number c.args.entry.now c.self.invariant place (omega arith) none (omega (arith, c.if-len.false, c.len.ensures)))
 
 pub returns-then-place-slots-2-clause-ok : goal.returns-then-place-slots-2-clause-ok
 returns-then-place-slots-2-clause-ok c =
@@ -39,7 +39,7 @@ returns-then-place-slots-2-clause-ok c =
     rw (← c.self.view_is) at c.requires.free in
     let none : at s.out_of_order.entries c.args.number ≡ None =
     sym (at-past s.covered (row_slots s.contiguous) s.out_of_order.entries c.args.number (omega arith)) ∙ free in
-    let puts = PutsEntry-push s.covered (row_slots s.contiguous) s.out_of_order.entries c.args.number c.args.entry
+    let puts = PutsEntry-push s.covered (row_slots s.contiguous) s.out_of_order.entries c.args.number c.args.entry.now
     c.self.invariant place none in
     let same = c.gather.ensures.same in
     rw (← c.self.view_is, same, c.in_ok-push.ensures.items) puts
@@ -59,5 +59,5 @@ returns-clause-ok c =
     let old : c.in_ok-insert.field-0 ≡ None = c.in_ok-insert.ensures.old ∙ none in
     let counted = rw old at c.in_ok-insert.ensures.len in
     rw (← c.self.view_is) (PutsEntry-out_of_order s.covered (row_slots s.contiguous) s.out_of_order.entries
-    c.insert.new.self.entries c.args.number c.args.entry c.self.invariant past c.in_ok-insert.ensures.updates.1
+    c.insert.new.self.entries c.args.number c.args.entry.now c.self.invariant past c.in_ok-insert.ensures.updates.1
     c.in_ok-insert.ensures.updates.2 counted)

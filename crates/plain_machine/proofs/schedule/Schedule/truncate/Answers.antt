@@ -7,7 +7,8 @@ use Rattle.plain_machine.proofs.PackedMoves.{kept_moves, kept_rise}
 use Rattle.plain_machine.proofs.schedule.Schedule.truncate.Goals as goal
 
 -- those that are not kept are the others of all
-rest_is : (xs ys : List PackedMove) (n most count k : ℕ) → ys ≡ xs → most ≡ answers_before count (take (length ys - k) (drop k ys))
+rest_is : (xs ys : List PackedMove) (n most count k : ℕ) → ys ≡ xs
+    → most ≡ answers_before count (take (length ys - k) (drop k ys))
     → count ≡ n → most ≡ answers_before n (drop k xs)
 rest_is xs ys n most count k same is many =
     is ∙ ap (λ m. answers_before m (take (length ys - k) (drop k ys))) many
