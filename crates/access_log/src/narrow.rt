@@ -42,7 +42,7 @@ fn is_zero_from(stamp: &Stamp, first: usize) -> bool
     let mut zero = true;
     // With no early end the compiler compares several components at once.
     for i in first..16 {
-        zero = zero && components[i] == 0;
+        zero &= components[i] == 0;
     }
     zero
 }
