@@ -14,6 +14,7 @@ use Rattle.link_store.specs.declared.address.Address.{Address}
 use Rattle.link_store.specs.declared.kept.Form.{Form}
 use Rattle.link_store.specs.declared.kept.Form.TheVariants.{Spelled}
 use Rattle.link_store.specs.Kept.{bytes_of, IsTold, Tells, AreTold, TellsEach}
+use Rattle.link_store.specs.Rows.{TellsOne}
 use Rattle.link_store.specs.Links.{address, frame_at, GoesOn, IsOutputOf, TurnsEpoch}
 use Rattle.link_store.specs.Runs.{later, in_turn}
 use Rattle.link_store.proofs.KeptLemmas.{told_same, tells_on}
@@ -121,6 +122,18 @@ told_more old now n f g h low is told tells = record {
         let was : slice_index_or old i d ≡ f = ap (λ (k : ℕ). slice_index_or old k d) is ∙ before d in
         subst (λ (q : Form). Tells epoch q (slice_index_or (slice_set now n g) i d)) (sym was)
         (subst (λ (q : Form). Tells epoch f q) (sym (at i d is)) (tells epoch))
+
+any_default : (l : List Form) (k : ℕ) (d f : Form) → k < length l → slice_index_or l k d ≡ slice_index_or l k f
+any_default [] k d f low = absurd (omega (arith, low))
+any_default (x ∷ l) zero d f low = refl
+any_default (x ∷ l) (suc k) d f low = any_default l k d f (omega (arith, low))
+
+pub told_one : (old now next : List Form) (n : ℕ) → ToldSoFar old now n → n < length now → TellsOne n now next
+    → ToldSoFar old next (n + 1)
+told_one old now next n h low t =
+    let was = slice_index_or now n t.form in
+    subst (λ (l : List Form). ToldSoFar old l (n + 1)) (sym t.put)
+    (told_more old now n was t.form h low (any_default now n t.form was low) t.told t.same)
 
 pub told_all : (old now : List Form) (n : ℕ) → length now ≤ n → ToldSoFar old now n → (epoch : ℕ)
     → TellsEach epoch old now

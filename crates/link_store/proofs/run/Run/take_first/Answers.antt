@@ -1,4 +1,5 @@
 use Rattle.std.proofs.Common.{◌≡◌, ◌≢◌, ◌+◌, ◌<◌, ◌∙◌, sym, length, arith}
+use Rattle.link_store.specs.Rows.{forms_of}
 use Rattle.link_store.proofs.RunLemmas.{drops_head, is_min, at_first}
 use Rattle.link_store.proofs.run.Run.take_first.Goals as goal
 
@@ -9,7 +10,7 @@ returns-clause-others c a apart =
     let fits = c.self.invariant in
     let there = rw (← c.self.view_is) at c.in_ok-place.ensures.there in
     let is = at_first s.first c.args.at.now c.in_ok-place.place (omega (arith, c.if-place-gt0.false)) there in
-    let follows : 1 < length s.frames.items → next ≡ s.first.number + 1 =
+    let follows : 1 < length (forms_of s.frames) → next ≡ s.first.number + 1 =
     λ more. is_min (s.first.number + 1) _ next c.saturating_add-self-inside.ensures (omega (arith, fits, more)) in
     let far : a ≢ s.first = λ e. apart (e ∙ sym is) in
-    rw (← c.self.view_is, c.pop_front.ensures.rest) (drops_head s.frames.items s.first next follows a far)
+    rw (← c.self.view_is, c.pop_front.ensures.rest) (drops_head (forms_of s.frames) s.first next follows a far)
