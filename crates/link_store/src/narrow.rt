@@ -1,4 +1,4 @@
-ghost use Rattle.std.specs.Prelude.{◌≡◌, ◌≤◌, ¬, ℕ, IfErr, IfOk};
+ghost use Rattle.std.specs.Prelude.{◌≡◌, ◌≤◌, ℕ, IfErr, IfOk};
 ghost use Rattle.wire_frames.specs.FromAccessLog.{Output as OutputValue};
 ghost use Rattle.wire_frames.specs.FromAccessLog.{StampedEntry as EntryValue};
 ghost use Rattle.wire_frames.specs.declared.frame.Frame.TheVariants as frame_is;
@@ -79,7 +79,7 @@ impl<const N: usize> NarrowFrame<N> {
     /// The frame with all room.
     pub fn whole(self) -> KeptFrame
         requires { N ≤ 16 }
-        ensures { result ≡ self }
+        ensures { result ≡ self.entry }
     {
         KeptFrame {
             form: Form::Told {
@@ -134,7 +134,7 @@ impl<const N: usize> NarrowFrame<N> {
     /// It is not that of an entry.
     pub fn is_no_entry(&self)
         ensures { (epoch threads : ℕ) (e : EntryValue)
-            → ¬ IsFrame (bytes_of epoch self.now) (frame_is.Entry epoch threads e) }
+            → IsFrame (bytes_of epoch self.now) (frame_is.Entry epoch threads e) → ⊥ }
     {
         self.is_told();
     }

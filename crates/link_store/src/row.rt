@@ -1,7 +1,7 @@
 //! Frames that follow one another. While all stamps have but a few components that are not 0, a frame has room for no more.
 ghost use Rattle.std.specs.Prelude.{◌≡◌, ◌<◌, ◌++◌, ◌∷◌, ℕ, [], None, Some, Ok, IfOk, IfSome, OnOk, OnErr};
 ghost use Rattle.std.specs.Prelude.{MatchOption, drop, length, option_map, slice_get, slice_index_or};
-ghost use Rattle.std.specs.Prelude.{slice_set, take, IfNone};
+ghost use Rattle.std.specs.Prelude.{slice_set, take, option_to_list};
 ghost use Rattle.wire_frames.specs.FromAccessLog.{Output as OutputValue};
 ghost use Rattle.wire_frames.specs.FromAccessLog.{StampedEntry as EntryValue};
 ghost use Rattle.wire_frames.specs.declared.frame.Frame.TheVariants as frame_is;
@@ -116,7 +116,7 @@ impl FrameRow {
 
     /// Takes the first frame out.
     pub fn pop_front(&mut self) -> Option<KeptFrame>
-        ensures first { result ≡ slice_get (forms_of self.old) 0 }
+        ensures items { forms_of self.old ≡ option_to_list result ++ forms_of self.new }
         ensures rest { forms_of self.new ≡ drop 1 (forms_of self.old) }
     {
         match self {
@@ -214,7 +214,8 @@ impl FrameRow {
     /// Keeps a frame as the output that it tells, as `KeptFrame` has it.
     pub fn tell(&mut self, alloc: Global, i: usize) -> Result<(), NoMemory>
         requires { i < length (forms_of self.old) }
-        ensures { OnOk result (TellsOne i (forms_of self.old) (forms_of self.new)) }
+        ensures tells { OnOk result (TellsOne i (forms_of self.old) (forms_of self.new)) }
+        ensures as_many { length (forms_of self.new) ≡ length (forms_of self.old) }
     {
         match self {
             FrameRow::Narrow(frames) => {

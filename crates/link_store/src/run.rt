@@ -37,7 +37,7 @@ impl Model for Run {
 /// Keeps each of these frames as the output that it tells, of which the first are kept so, this number of them.
 fn tell_from(alloc: Global, from: usize, frames: &mut FrameRow) -> Result<(), NoMemory>
     requires { AreTold from (forms_of frames.old) }
-    ensures as_many { OnOk result (length (forms_of frames.new) ≡ length (forms_of frames.old)) }
+    ensures as_many { length (forms_of frames.new) ≡ length (forms_of frames.old) }
     ensures ok { OnOk result ((epoch : ℕ)
         → TellsEach epoch (forms_of frames.old) (forms_of frames.new)) }
 {
@@ -98,12 +98,7 @@ impl Run {
     }
 
     /// Puts a frame at this address, in the place of the one before or as the next.
-    pub fn put(
-        &mut self,
-        alloc: Global,
-        at: &Address,
-        frame: KeptFrame,
-    ) -> Result<(), NoMemory>
+    pub fn put(&mut self, alloc: Global, at: &Address, frame: KeptFrame) -> Result<(), NoMemory>
         requires { Takes self.old at.now }
         ensures ok { OnOk result (Sends (frames_of self.old) (frames_of self.new) at.now
             (bytes_of at.now.epoch frame)) }
@@ -143,7 +138,7 @@ impl Run {
         if !self.first.is_beside(last) {
             return;
         }
-        while !self.frames.len() == 0 {
+        while self.frames.len() > 0 {
             if self.first.number > last.number {
                 return;
             }
@@ -160,6 +155,7 @@ impl Run {
         if !self.first.is_beside(last) {
             return;
         }
+        let _count = self.frames.len();
         match last.number.checked_sub(self.first.number) {
             Some(behind) => self.frames.truncate(behind.saturating_add(1) as usize),
             None => self.frames.truncate(0),

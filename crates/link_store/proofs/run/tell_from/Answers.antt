@@ -11,7 +11,7 @@ loop-i-preserved c =
     let inv = c.loop-i.invariant in
     let many = inv.as_many in
     told_one (forms_of c.args.frames.now) (forms_of c.loop-i.frames) (forms_of c.tell.new.self) c.loop-i.i inv
-    (omega (arith, many, c.len-i-end.ensures, c.loop-i-test.true)) c.in_ok-tell.ensures
+    (omega (arith, many, c.len-i-end.ensures, c.loop-i-test.true)) c.in_ok-tell.ensures.tells
 
 pub returns-clause-ok : goal.returns-clause-ok
 returns-clause-ok c =

@@ -14,7 +14,7 @@ invariant-loop-self l = record {
   told : AreTold l.self-inside.told (forms_of l.self-inside.frames);
   others : (a : Address) → (IsUpTo l.last a → ⊥)
       → frame_at (in_turn l.self-inside.first (forms_of l.self-inside.frames)) a
-      ≡ frame_at (in_turn l.initial.self-inside.first l.initia(forms_of l.self-inside.frames)) a;
+      ≡ frame_at (in_turn l.initial.self-inside.first (forms_of l.initial.self-inside.frames)) a;
 }
 
 abbrev pub decreases-loop-self : goal.decreases-loop-self

@@ -1,4 +1,5 @@
-use Rattle.std.proofs.Common.{sym, subst, arith, length, slice_set, ◌-◌, ◌<◌, ◌≤◌}
+use Rattle.std.proofs.Common.{List, sym, subst, arith, length, ◌-◌, ◌<◌, ◌≤◌}
+use Rattle.std.proofs.lemmas.Result.{on_ok_weaker}
 use Rattle.link_store.specs.Rows.{forms_of}
 use Rattle.link_store.specs.declared.kept.Form.{Form}
 use Rattle.link_store.specs.Kept.{bytes_of}
@@ -17,8 +18,8 @@ returns-then-place-len-clause-ok c =
     let After : List Form → Type 0 =
     λ l. Sends (in_turn s.first (forms_of s.frames)) (in_turn s.first l) at (bytes_of at.epoch c.args.frame) in
     rw (← c.self.view_is)
-    (OnOk_then c.set.result c.set.ensures.ok (λ is.
-    subst After (sym is) (puts_set s.first (forms_of s.frames) at c.args.frame takes low)))
+    (on_ok_weaker c.set.result
+    (λ is. subst After (sym is) (puts_set s.first (forms_of s.frames) at c.args.frame takes low)) c.set.ensures.ok)
 
 pub returns-else-place-len-clause-ok : goal.returns-else-place-len-clause-ok
 returns-else-place-len-clause-ok c =
@@ -30,5 +31,6 @@ returns-else-place-len-clause-ok c =
     λ l. Sends (in_turn s.first (forms_of s.frames)) (in_turn s.first l) c.args.at.now
     (bytes_of c.args.at.now.epoch c.args.frame) in
     rw (← c.self.view_is)
-    (OnOk_then c.push.result c.push.ensures.ok (λ is.
-    subst After (sym is) (puts_next s.first (forms_of s.frames) c.args.at.now c.args.frame takes high)))
+    (on_ok_weaker c.push.result
+    (λ is. subst After (sym is) (puts_next s.first (forms_of s.frames) c.args.at.now c.args.frame takes high))
+    c.push.ensures.ok)
