@@ -6,6 +6,7 @@ mod held;
 mod lane;
 mod laws;
 mod narrow;
+mod narrow_stamp;
 mod row;
 mod slots;
 
@@ -13,3 +14,4 @@ pub use entry::{Added, Output, Outputs, StampedEntry, Turn, copy_output};
 pub use entry_order::What;
 pub use held::{Held, Kept};
 pub use laws::held_sets_are_counted;
+pub use narrow_stamp::NarrowStamp;

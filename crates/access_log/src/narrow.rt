@@ -35,7 +35,7 @@ impl<const N: usize> Model for NarrowSlot<N> {
 }
 
 /// Whether the components of the threads from this one on are 0.
-fn is_zero_from(stamp: &Stamp, first: usize) -> bool
+pub(crate) fn is_zero_from(stamp: &Stamp, first: usize) -> bool
     ensures { IsTrue result ↔ ((k : ℕ) → first ≤ k → slice_index stamp.now k ≡ 0) }
 {
     let components = stamp.components();
@@ -48,7 +48,7 @@ fn is_zero_from(stamp: &Stamp, first: usize) -> bool
 }
 
 /// The first components.
-fn first_components<const N: usize>(stamp: &Stamp) -> [u32; N]
+pub(crate) fn first_components<const N: usize>(stamp: &Stamp) -> [u32; N]
     requires { N ≤ 16 }
     ensures count { length result ≡ N }
     ensures all { length stamp.now ≡ 16 }
@@ -63,7 +63,7 @@ fn first_components<const N: usize>(stamp: &Stamp) -> [u32; N]
 }
 
 /// The stamp with these first components, of which the others are 0.
-fn padded(components: &[u32]) -> Stamp
+pub(crate) fn padded(components: &[u32]) -> Stamp
     requires { length components.now ≤ 16 }
     ensures { result ≡ padded 16 components.now }
 {

@@ -10,6 +10,8 @@ use Rattle.std.proofs.lemmas.List.{get_or-set_same, get_or-set_other, get_or_rea
 use Rattle.std.proofs.lemmas.Bool.{cases_lt}
 use Rattle.plain_text.specs.declared.kind.Kind.TheVariants.{Out}
 use Rattle.link_store.specs.declared.kept.Form.{Form}
+use Rattle.link_store.specs.declared.row.SeenFrame.{SeenFrame}
+use Rattle.link_store.specs.Rows.{form_of}
 use Rattle.link_store.specs.Kept.{bytes_of}
 use Rattle.link_store.specs.Links.{address, frame_at, Sends, Forgets, GoesOn, TurnsEpoch}
 use Rattle.link_store.specs.Runs.{Run, frames_of, all_of, IsFirstTaker, NoneTakes, IsEach, ForgetsIn, TurnsIn}
@@ -87,14 +89,14 @@ found_in (r ∷ runs) (suc i) a f d low before some =
     ∙ found_in runs i a f d (omega arith) (λ j e under. before (suc j) e (omega arith)) some
 
 -- read in the run that has it
-pub found_if : (runs : List Run) (i : ℕ) (a : Address) (run : Run) (r : Option (Bor Form)) → is_some r ≡ true → i < length runs
+pub found_if : (runs : List Run) (i : ℕ) (a : Address) (run : Run) (r : Option SeenFrame) → is_some r ≡ true → i < length runs
     → ((j : ℕ) (e : Run) → j < i → frame_at (frames_of (slice_index_or runs j e)) a ≡ None)
     → run ≡ slice_index_or runs i run
-    → option_map (bytes_of a.epoch) (option_copied r) ≡ frame_at (frames_of run) a
-    → option_map (bytes_of a.epoch) (option_copied r) ≡ frame_at (all_of runs) a
+    → option_map (bytes_of a.epoch) (option_map form_of r) ≡ frame_at (frames_of run) a
+    → option_map (bytes_of a.epoch) (option_map form_of r) ≡ frame_at (all_of runs) a
 found_if runs i a run None some low before read is = absurd (cc)
 found_if runs i a run (Some x) some low before read is =
-    sym (found_in runs i a (bytes_of a.epoch x.now) run low before
+    sym (found_in runs i a (bytes_of a.epoch (form_of x)) run low before
     (ap (λ (q : Run). frame_at (frames_of q) a) (sym read) ∙ sym is))
 
 -- a change of the i-th run elsewhere

@@ -1,6 +1,7 @@
 -- Bytes are the frame of one value at most, and are read without a fault. What is kept as an output has a frame in each
 -- epoch.
 use Rattle.std.proofs.Common.{◌≡◌, ℕ, ◌+◌, ◌-◌, ◌^◌, ◌<◌, ◌≤◌, List, Result, Err, Some, length, refl, sym, ap, ◌∙◌, subst, arith}
+use Rattle.plain_text.specs.declared.packet.Packet.{Packet}
 use Rattle.wire_frames.specs.FromAccessLog.{StampedEntry}
 use Rattle.wire_frames.specs.FromAccessLog.{Output}
 use Rattle.wire_frames.specs.declared.frame.Frame.{Frame}
@@ -14,7 +15,7 @@ use Rattle.wire_frames.specs.Writing.{CanPutOutput}
 use Rattle.wire_frames.proofs.Whole.{begins_whole, same_frame, is_written}
 use Rattle.link_store.specs.declared.kept.Form.{Form}
 use Rattle.link_store.specs.declared.kept.Form.TheVariants.{Spelled, Told}
-use Rattle.link_store.specs.Kept.{bytes_of, HasFrame, IsTold, IsWell, Tells}
+use Rattle.link_store.specs.Kept.{bytes_of, told_of, HasFrame, IsTold, IsWell, Tells}
 
 -- a frame is not at fault
 pub gives_no_fault : (r : Result (Frame × ℕ) FrameError) (fault : FrameFault) (f : Frame) (size : ℕ)
@@ -103,6 +104,21 @@ first_frame bytes epoch threads size o begins =
 pub told_same : (epoch : ℕ) (f : Form) → IsTold f → Tells epoch f f
 told_same epoch (Spelled bytes) told threads o is = absurd told
 told_same epoch (Told sent out) told threads o is = let k = one_output epoch sent out told threads o is in cc
+
+-- it is the frame of no entry
+pub told_no_entry : (epoch : ℕ) (f : Form) → IsTold f → (threads : ℕ) (e : StampedEntry)
+    → IsFrame (bytes_of epoch f) (frame.Entry epoch threads e) → ⊥
+told_no_entry epoch (Spelled bytes) told threads e is = told
+told_no_entry epoch (Told sent out) told threads e is = no_entry epoch sent out told threads e is
+
+-- and its output has this stamp
+pub told_stamp : (epoch sent thread number input : ℕ) (stamp : List ℕ) (packet : Packet)
+    → IsTold (told_of sent thread number input stamp packet) → (threads : ℕ) (o : Output)
+    → IsFrame (bytes_of epoch (told_of sent thread number input stamp packet)) (frame.Output epoch threads o)
+    → stamp ≡ o.stamp
+told_stamp epoch sent thread number input stamp packet told threads o is =
+    let out : Output = record { thread = thread; number = number; input = input; stamp = stamp; packet = packet } in
+    ap (λ (x : Output). x.stamp) (one_output epoch sent out told threads o is).1
 
 -- so it has its frame in the next one
 pub tells_on : (epoch : ℕ) (f g : Form) → epoch < 2 ^ 32 - 1 → IsTold g → Tells epoch f g → (threads : ℕ) (o : Output)

@@ -130,12 +130,6 @@ not_taken run a none =
     run_out run.frames run.first a (λ i low e. none (record { place = i; within = omega arith; is = e }))
 
 -- the frame that a run is asked for
-pub copied : {X : Type 0} (xs : List X) (i n : ℕ) (r : Option (Bor X)) → n ≡ length xs → IsSome r ↔ (i < n)
-    → IfSome r (λ x. x.now ≡ slice_index_or xs i x.now) → option_copied r ≡ slice_get xs i
-copied xs i n None len there value = sym (slice_get_past xs i
-    (⊎_elim (λ low. absurd (let some = there.1 low in cc)) (λ high. omega arith) (cases_lt i n)))
-copied xs i n (Some x) len there value = sym (slice_get_read xs n i x.now len (there.0 refl) value)
-
 -- Putting a frame into a run
 
 sends_behind : (first : Address) (f : List ℕ) (old new : List (Address × List ℕ)) (i : ℕ) (g : List ℕ)

@@ -1,6 +1,6 @@
 -- Frames that are kept as outputs, and how they go on in the next epoch.
 use Rattle.std.proofs.Common.{◌≡◌, ◌≢◌, ℕ, zero, suc, ◌+◌, ◌-◌, ◌^◌, ◌<◌, ◌≤◌, List, [], ◌∷◌, ◌++◌, Option, Some, None}
-use Rattle.std.proofs.Common.{length, length-set, take, drop, min, refl, sym, ap, ◌∙◌, subst, inl, inr, ◌⊎◌}
+use Rattle.std.proofs.Common.{Result, Ok, Err, OnOk, length, length-set, take, drop, min, refl, sym, ap, ◌∙◌, subst, inl, inr, ◌⊎◌}
 use Rattle.std.proofs.Common.{slice_index_or, slice_set, arith}
 use Rattle.std.specs.List.{slice_get}
 use Rattle.std.specs.Option.{option_map}
@@ -14,6 +14,7 @@ use Rattle.link_store.specs.declared.address.Address.{Address}
 use Rattle.link_store.specs.declared.kept.Form.{Form}
 use Rattle.link_store.specs.declared.kept.Form.TheVariants.{Spelled}
 use Rattle.link_store.specs.Kept.{bytes_of, IsTold, Tells, AreTold, TellsEach}
+use Rattle.link_store.specs.Rows.{TellsOne}
 use Rattle.link_store.specs.Links.{address, frame_at, GoesOn, IsOutputOf, TurnsEpoch}
 use Rattle.link_store.specs.Runs.{later, in_turn}
 use Rattle.link_store.proofs.KeptLemmas.{told_same, tells_on}
@@ -121,6 +122,46 @@ told_more old now n f g h low is told tells = record {
         let was : slice_index_or old i d ≡ f = ap (λ (k : ℕ). slice_index_or old k d) is ∙ before d in
         subst (λ (q : Form). Tells epoch q (slice_index_or (slice_set now n g) i d)) (sym was)
         (subst (λ (q : Form). Tells epoch f q) (sym (at i d is)) (tells epoch))
+
+any_default : (l : List Form) (k : ℕ) (d f : Form) → k < length l → slice_index_or l k d ≡ slice_index_or l k f
+any_default [] k d f low = absurd (omega (arith, low))
+any_default (x ∷ l) zero d f low = refl
+any_default (x ∷ l) (suc k) d f low = any_default l k d f (omega (arith, low))
+
+put_same : (l : List Form) (i : ℕ) (x : Form) → x ≡ slice_index_or l i x → l ≡ slice_set l i x
+put_same [] i x is = refl
+put_same (y ∷ l) zero x is = ap (λ (z : Form). z ∷ l) (sym is)
+put_same (y ∷ l) (suc i) x is = ap (λ (m : List Form). y ∷ m) (put_same l i x is)
+
+-- one of them is looked at
+pub tells_still : (i : ℕ) (l : List Form) (x : Form) → x ≡ slice_index_or l i x → IsTold x → TellsOne i l l
+tells_still i l x is told = record {
+  form = x;
+  put = put_same l i x is;
+  told = told;
+  same = λ epoch. subst (λ (f : Form). Tells epoch f x) is (told_same epoch x told);
+}
+
+-- or is kept as the output that it told
+pub tells_set : (i : ℕ) (l : List Form) (x g : Form) → i < length l → x ≡ slice_index_or l i x → IsTold g
+    → ((epoch : ℕ) → Tells epoch x g) → TellsOne i l (slice_set l i g)
+tells_set i l x g low is told tells = record {
+  form = g;
+  put = refl;
+  told = told;
+  same = λ epoch. subst (λ (f : Form). Tells epoch f g) (is ∙ any_default l i x g low) (tells epoch);
+}
+
+pub on_ok_both : {T E P Q R : Type 0} (r : Result T E) → (P → Q → R) → OnOk r P → OnOk r Q → OnOk r R
+on_ok_both (Ok x) f p q = f p q
+on_ok_both (Err e) f p q = tt
+
+pub told_one : (old now next : List Form) (n : ℕ) → ToldSoFar old now n → n < length now → TellsOne n now next
+    → ToldSoFar old next (n + 1)
+told_one old now next n h low t =
+    let was = slice_index_or now n t.form in
+    subst (λ (l : List Form). ToldSoFar old l (n + 1)) (sym t.put)
+    (told_more old now n was t.form h low (any_default now n t.form was low) t.told t.same)
 
 pub told_all : (old now : List Form) (n : ℕ) → length now ≤ n → ToldSoFar old now n → (epoch : ℕ)
     → TellsEach epoch old now

@@ -1,5 +1,6 @@
 -- A frame that is kept as its bytes, or as the output that it tells.
 use Rattle.std.specs.Prelude.{◌≡◌, ℕ, ◌<◌, List, length, slice_index_or}
+use Rattle.plain_text.specs.declared.packet.Packet.{Packet}
 use Rattle.wire_frames.specs.FromAccessLog.{Output}
 use Rattle.wire_frames.specs.declared.frame.Frame.TheVariants as frame
 use Rattle.wire_frames.specs.Layout.{written, IsFrame}
@@ -24,6 +25,11 @@ IsWell (Told threads output) = HasFrame threads output
 abbrev pub IsTold : Form → Type 0
 IsTold (Spelled bytes) = ⊥
 IsTold (Told threads output) = HasFrame threads output
+
+-- the frame of an output with these parts, which is kept as the output
+abbrev pub told_of : ℕ → ℕ → ℕ → ℕ → List ℕ → Packet → Form
+told_of threads thread number input stamp packet =
+    Told threads (record { thread = thread; number = number; input = input; stamp = stamp; packet = packet })
 
 -- where the one is a frame of an output in this epoch, the other is this output
 abbrev pub Tells : ℕ → Form → Form → Type 0

@@ -11,6 +11,7 @@ use crate::reading::{entry_in, output_in, sent_in};
 use plain_text::{Bytes, NoMemory};
 use std::alloc::Global;
 use std::marker::Model;
+use thread_clock::Stamp;
 use wire_frames::{Output, StampedEntry, copy_output};
 
 /// How a frame is kept.
@@ -28,7 +29,7 @@ pub enum Form {
 /// and stand nowhere. They say the epoch in which the frame stands, which is kept once for many frames.
 #[derive(Debug, Drop)]
 pub struct KeptFrame {
-    form: Form,
+    pub(crate) form: Form,
 }
 
 impl Model for KeptFrame {
@@ -121,16 +122,30 @@ impl KeptFrame {
         }
     }
 
-    /// The output itself, where the frame is kept as one.
-    pub fn told(&self) -> Option<&Output>
-        ensures { IfSome result (λ told. (epoch threads : ℕ) (o : OutputValue)
+    /// The stamp of the output, where the frame is kept as one.
+    pub fn stamp(&self) -> Option<Stamp>
+        ensures { IfSome result (λ stamp. (epoch threads : ℕ) (o : OutputValue)
             → IsFrame (bytes_of epoch self.now) (frame_is.Output epoch threads o)
-            → told.now ≡ o) }
+            → stamp ≡ o.stamp) }
     {
         match &self.form {
             Form::Spelled(_) => None,
-            Form::Told { output, .. } => Some(output),
+            Form::Told { output, .. } => Some(output.stamp),
         }
+    }
+
+    /// A copy of the frame.
+    pub fn copied(&self, alloc: Global) -> Result<Self, NoMemory>
+        ensures { IfOk result (λ copy. copy ≡ self.now) }
+    {
+        let form = match &self.form {
+            Form::Spelled(bytes) => Form::Spelled(Bytes::of(alloc, bytes.as_slice())?),
+            Form::Told { threads, output } => Form::Told {
+                threads: *threads,
+                output: copy_output(alloc, output)?,
+            },
+        };
+        Ok(KeptFrame { form })
     }
 
     /// The output of the frame, as `output` has it: one that is kept as an output is moved out.

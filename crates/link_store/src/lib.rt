@@ -5,11 +5,14 @@
 mod address;
 mod kept;
 mod links;
+mod narrow;
 mod reading;
+mod row;
 mod run;
 mod sending;
 
 pub use address::Address;
 pub use kept::KeptFrame;
 pub use links::Links;
+pub use row::SeenFrame;
 pub use sending::SentFrames;

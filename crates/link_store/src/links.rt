@@ -1,5 +1,5 @@
 ghost use Rattle.std.specs.Prelude.{◌≡◌, ◌≢◌, ◌<◌, ◌-◌, ◌^◌, ℕ, List, [], Some, None, OnOk};
-ghost use Rattle.std.specs.Prelude.{OnErr, IfOk, IfSome, IfNone, length, option_copied, option_map};
+ghost use Rattle.std.specs.Prelude.{OnErr, IfOk, IfSome, IfNone, length, option_map};
 ghost use Rattle.std.specs.Prelude.{slice_index_or};
 ghost use Rattle.plain_text.specs.declared.kind.Kind.TheVariants.{Out};
 ghost use Rattle.wire_frames.specs.declared.frame.Frame.TheVariants as frame_is;
@@ -9,9 +9,11 @@ ghost use Rattle.link_store.specs.declared.address.Address.{Address};
 ghost use Rattle.link_store.specs.Kept.{bytes_of};
 ghost use Rattle.link_store.specs.Links.{address, frame_at, Sends, Forgets, IsUpTo, IsPast};
 ghost use Rattle.link_store.specs.Links.{TurnsEpoch};
+ghost use Rattle.link_store.specs.Rows.{form_of};
 ghost use Rattle.link_store.specs.Runs.{Run as RunValue, frames_of, all_of, IsFirstTaker};
 ghost use Rattle.link_store.specs.Runs.{NoneTakes, IsEach, ForgetsIn, TurnsIn};
 
+use crate::row::SeenFrame;
 use crate::run::Run;
 use crate::{Address, KeptFrame};
 use plain_text::{Bytes, Kind, NoMemory};
@@ -74,8 +76,8 @@ fn empty_run(runs: &Vec<Run>) -> Option<usize>
 }
 
 /// The frame at this address in the runs.
-fn in_runs<'a>(runs: &'a Vec<Run>, at: &Address) -> Option<&'a KeptFrame>
-    ensures { option_map (bytes_of at.now.epoch) (option_copied result)
+fn in_runs<'a>(runs: &'a Vec<Run>, at: &Address) -> Option<SeenFrame<'a>>
+    ensures { option_map (bytes_of at.now.epoch) (option_map form_of result)
         ≡ frame_at (all_of runs.now.items) at.now }
 {
     for i in 0..runs.len() {
@@ -169,7 +171,7 @@ fn keep(alloc: Global, runs: &mut Vec<Run>, at: Address, frame: KeptFrame) -> Re
     ensures err { OnErr result (all_of runs.new.items ≡ all_of runs.old.items) }
 {
     match taker(runs, &at) {
-        Some(i) => runs[i].put(&at, frame),
+        Some(i) => runs[i].put(alloc, &at, frame),
         None => send_apart(alloc, runs, at, frame),
     }
 }
@@ -234,8 +236,8 @@ impl Links {
 
     /// The frame last sent under these numbers and not forgotten since; `None` exactly where there is none. It takes no
     /// memory.
-    pub fn fetch(&self, epoch: u32, kind: Kind, thread: u32, number: u64) -> Option<&KeptFrame>
-        ensures frame { option_map (bytes_of epoch) (option_copied result)
+    pub fn fetch(&self, epoch: u32, kind: Kind, thread: u32, number: u64) -> Option<SeenFrame<'_>>
+        ensures frame { option_map (bytes_of epoch) (option_map form_of result)
             ≡ frame_at self.now (address epoch kind thread number) }
     {
         let address = Address {

@@ -1,15 +1,16 @@
 ghost use Rattle.std.specs.Prelude.{◌≡◌, ◌≢◌, ◌↔◌, ℕ, ◌+◌, ◌≤◌, [], ◌∷◌, IsTrue, IfSome, IfNone};
-ghost use Rattle.std.specs.Prelude.{IfOk, OnOk, OnErr, Some, length, option_copied, option_map};
+ghost use Rattle.std.specs.Prelude.{IfOk, OnOk, OnErr, Some, length, option_map};
 ghost use Rattle.std.specs.Prelude.{◌-◌, ◌^◌, ◌<◌};
 ghost use Rattle.link_store.specs.declared.address.Address.{Address};
 ghost use Rattle.link_store.specs.Kept.{bytes_of, AreTold, TellsEach};
 ghost use Rattle.link_store.specs.Links.{frame_at, Sends, IsUpTo, IsPast};
+ghost use Rattle.link_store.specs.Rows.{forms_of, form_of};
 ghost use Rattle.link_store.specs.Runs.{frames_of, later, Takes, ForgetsIn, TurnsIn};
 
+use crate::row::{FrameRow, SeenFrame};
 use crate::{Address, KeptFrame};
 use plain_text::NoMemory;
 use std::alloc::Global;
-use std::collections::VecDeque;
 use std::marker::Model;
 use std::mem;
 
@@ -17,29 +18,31 @@ use std::mem;
 #[derive(Debug, Drop)]
 pub struct Run {
     first: Address,
-    frames: VecDeque<KeptFrame>,
+    frames: FrameRow,
     /// How many of the first frames are known to be kept as outputs.
     told: usize,
 }
 
 impl Model for Run {
     ghost use Rattle.link_store.specs.Runs.{Run, IsRun};
+    ghost use Rattle.link_store.specs.Rows.{forms_of};
 
     ghost Value = { Run };
 
-    ghost view = { λ r. record { first = r.first; frames = r.frames.items } };
+    ghost view = { λ r. record { first = r.first; frames = forms_of r.frames } };
 
-    ghost invariant = { λ r. IsRun (record { first = r.first; frames = r.frames.items }) r.told };
+    ghost invariant = { λ r. IsRun (record { first = r.first; frames = forms_of r.frames }) r.told };
 }
 
 /// Keeps each of these frames as the output that it tells, of which the first are kept so, this number of them.
-fn tell_from(alloc: Global, from: usize, frames: &mut VecDeque<KeptFrame>) -> Result<(), NoMemory>
-    requires { AreTold from frames.old.items }
-    ensures as_many { length frames.new.items ≡ length frames.old.items }
-    ensures ok { OnOk result ((epoch : ℕ) → TellsEach epoch frames.old.items frames.new.items) }
+fn tell_from(alloc: Global, from: usize, frames: &mut FrameRow) -> Result<(), NoMemory>
+    requires { AreTold from (forms_of frames.old) }
+    ensures as_many { length (forms_of frames.new) ≡ length (forms_of frames.old) }
+    ensures ok { OnOk result ((epoch : ℕ)
+        → TellsEach epoch (forms_of frames.old) (forms_of frames.new)) }
 {
     for i in from..frames.len() {
-        frames[i].tell(alloc)?;
+        frames.tell(alloc, i)?;
     }
     Ok(())
 }
@@ -49,8 +52,8 @@ impl Run {
     pub fn of(alloc: Global, at: Address, frame: KeptFrame) -> Result<Self, NoMemory>
         ensures { IfOk result (λ run. run ≡ record { first = at; frames = frame ∷ [] }) }
     {
-        let mut frames = VecDeque::new(alloc);
-        frames.push_back(frame)?;
+        let mut frames = FrameRow::new(alloc);
+        frames.push(alloc, frame)?;
         Ok(Run {
             first: at,
             frames,
@@ -62,7 +65,7 @@ impl Run {
     pub fn is_empty(&self) -> bool
         ensures { IsTrue result ↔ (self.now.frames ≡ []) }
     {
-        self.frames.is_empty()
+        self.frames.len() == 0
     }
 
     /// How many numbers the address is behind the first, if it is of the same epoch, kind and thread.
@@ -87,15 +90,15 @@ impl Run {
     }
 
     /// The frame at this address.
-    pub fn get(&self, at: &Address) -> Option<&KeptFrame>
-        ensures { option_map (bytes_of at.now.epoch) (option_copied result)
+    pub fn get(&self, at: &Address) -> Option<SeenFrame<'_>>
+        ensures { option_map (bytes_of at.now.epoch) (option_map form_of result)
             ≡ frame_at (frames_of self.now) at.now }
     {
         self.frames.get(self.index_of(at)? as usize)
     }
 
     /// Puts a frame at this address, in the place of the one before or as the next.
-    pub fn put(&mut self, at: &Address, frame: KeptFrame) -> Result<(), NoMemory>
+    pub fn put(&mut self, alloc: Global, at: &Address, frame: KeptFrame) -> Result<(), NoMemory>
         requires { Takes self.old at.now }
         ensures ok { OnOk result (Sends (frames_of self.old) (frames_of self.new) at.now
             (bytes_of at.now.epoch frame)) }
@@ -104,11 +107,10 @@ impl Run {
         let place = (at.number - self.first.number) as usize;
         self.told = self.told.min(place);
         if place < self.frames.len() {
-            drop(mem::replace(&mut self.frames[place], frame));
+            self.frames.set(alloc, place, frame)
         } else {
-            self.frames.push_back(frame)?;
+            self.frames.push(alloc, frame)
         }
-        Ok(())
     }
 
     /// Takes the first frame out, if it has this address.
@@ -136,7 +138,7 @@ impl Run {
         if !self.first.is_beside(last) {
             return;
         }
-        while !self.frames.is_empty() {
+        while self.frames.len() > 0 {
             if self.first.number > last.number {
                 return;
             }
@@ -153,9 +155,10 @@ impl Run {
         if !self.first.is_beside(last) {
             return;
         }
+        let _count = self.frames.len();
         match last.number.checked_sub(self.first.number) {
             Some(behind) => self.frames.truncate(behind.saturating_add(1) as usize),
-            None => self.frames.clear(),
+            None => self.frames.truncate(0),
         }
     }
 
@@ -165,7 +168,7 @@ impl Run {
         ensures { OnOk result (TurnsIn epoch self.old self.new) }
     {
         if !self.first.is_output_of(epoch) {
-            self.frames.clear();
+            self.frames.truncate(0);
             return Ok(());
         }
         let told = mem::replace(&mut self.told, 0);

@@ -17,6 +17,7 @@ use crate::Links;
 use plain_text::{Bytes, Kind, NoMemory, Sequence};
 use std::alloc::Global;
 use std::marker::Model;
+use thread_clock::Stamp;
 use wire_frames::{Output, StampedEntry, What, entry_length, output_length, put_entry};
 
 /// What a master sends on its links: each entry and each output as a frame, and how long each frame was.
@@ -238,13 +239,13 @@ impl SentFrames {
         }
     }
 
-    /// The output that was sent under this number, where it is on the links as an output.
-    pub fn told(&self, thread: u32, number: u64) -> Option<&Output>
-        ensures { IfSome result (λ told. (o : OutputValue) → HasOutputFrame self.now o
-            → o.thread ≡ thread → o.number ≡ number → told.now ≡ o) }
+    /// The stamp of the output that was sent under this number, where it is on the links as an output.
+    pub fn stamp(&self, thread: u32, number: u64) -> Option<Stamp>
+        ensures { IfSome result (λ stamp. (o : OutputValue) → HasOutputFrame self.now o
+            → o.thread ≡ thread → o.number ≡ number → stamp ≡ o.stamp) }
     {
         let frame = self.links.fetch(self.epoch, Kind::Out, thread, number)?;
-        frame.told()
+        frame.stamp()
     }
 
     /// The output that was sent under this number. Where it is the first of its thread on the links, it is moved off

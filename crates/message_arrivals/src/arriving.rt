@@ -65,12 +65,12 @@ fn goes_next(sent: &SentFrames, logger: &OutputLogger, thread: u32, number: u64)
     requires { 1 ≤ number }
     ensures { IsTrue result → GoesNext sent.now logger.now thread number }
 {
-    let Some(output) = sent.told(thread, number) else {
+    let Some(stamp) = sent.stamp(thread, number) else {
         return false;
     };
     logger.released().floor(thread) == number - 1
         && !logger.has_arrived(thread, number)
-        && logger.held().missing(&output.stamp).is_none()
+        && logger.held().missing(&stamp).is_none()
 }
 
 /// The next output of a thread arrives and is released: it is moved off the links.

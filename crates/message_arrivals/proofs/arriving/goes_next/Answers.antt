@@ -1,9 +1,7 @@
-use Rattle.std.proofs.Common.{List, sym, ◌∙◌, subst, arith}
+use Rattle.std.proofs.Common.{ℕ, List, sym, ◌∙◌, subst, arith}
 use Rattle.std.proofs.lemmas.Bool.{eqb-true}
 use Rattle.std.proofs.lemmas.Option.{MatchOption-at_none}
-use Rattle.access_log.specs.declared.entry.Output.{Output}
 use Rattle.access_log.specs.Held.{Lane, IsWithin}
-use Rattle.output_logger.specs.Logger.{IsDue}
 use Rattle.message_arrivals.specs.Arriving.{GoesNext}
 use Rattle.message_arrivals.proofs.Forgetting.{is_none_of, not_so}
 use Rattle.message_arrivals.proofs.arriving.goes_next.Goals as goal
@@ -21,8 +19,8 @@ returns-then-not-has_arrived c is =
             let released = c.released.ensures in rw (← released) (omega (arith, from, value, at));
         fresh = λ h. not_so w.has_arrived.result _ w.value-is c.if-not-has_arrived.true (w.has_arrived.ensures.1 h);
         due = λ x frame thread number.
-            subst (λ (o : Output). IsDue held o) (c.in-Some.ensures x frame thread number)
-            (subst (λ (h : List Lane). IsWithin h c.in-Some.output.now.stamp) c.held.ensures within);
+            subst (λ (s : List ℕ). IsWithin held s) (c.in-Some.ensures x frame thread number)
+            (subst (λ (h : List Lane). IsWithin h c.in-Some.stamp) c.held.ensures within);
       }
       | else-floor-number w ↦
           absurd (w.if-floor-number.false (eqb-true _ _ (sym w.value-is ∙ c.if-not-has_arrived.true)))

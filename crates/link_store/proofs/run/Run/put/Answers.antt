@@ -1,4 +1,6 @@
-use Rattle.std.proofs.Common.{sym, subst, arith, length, slice_set, ◌-◌, ◌<◌, ◌≤◌}
+use Rattle.std.proofs.Common.{List, sym, subst, arith, length, ◌-◌, ◌<◌, ◌≤◌}
+use Rattle.std.proofs.lemmas.Result.{on_ok_weaker}
+use Rattle.link_store.specs.Rows.{forms_of}
 use Rattle.link_store.specs.declared.kept.Form.{Form}
 use Rattle.link_store.specs.Kept.{bytes_of}
 use Rattle.link_store.specs.Links.{Sends}
@@ -11,21 +13,24 @@ returns-then-place-len-clause-ok c =
     let s = c.self.inside in
     let at = c.args.at.now in
     let takes = subst (λ (r : Run). Takes r at) (sym c.self.view_is) c.requires in
-    let len = s.frames.ok.0 in
-    let low : at.number - s.first.number < length s.frames.items =
+    let low : at.number - s.first.number < length (forms_of s.frames) =
     omega (arith, c.if-place-len.true, c.len.ensures) in
-    let After : Form → Type 0 =
-    λ g. Sends (in_turn s.first s.frames.items)
-    (in_turn s.first (slice_set s.frames.items (at.number - s.first.number) g)) at (bytes_of at.epoch c.args.frame) in
+    let After : List Form → Type 0 =
+    λ l. Sends (in_turn s.first (forms_of s.frames)) (in_turn s.first l) at (bytes_of at.epoch c.args.frame) in
     rw (← c.self.view_is)
-    (subst After (sym c.replace.ensures.after) (puts_set s.first s.frames.items at c.args.frame takes low))
+    (on_ok_weaker c.set.result
+    (λ is. subst After (sym is) (puts_set s.first (forms_of s.frames) at c.args.frame takes low)) c.set.ensures.ok)
 
-pub returns-in_ok-push_back-clause-ok : goal.returns-in_ok-push_back-clause-ok
-returns-in_ok-push_back-clause-ok c =
+pub returns-else-place-len-clause-ok : goal.returns-else-place-len-clause-ok
+returns-else-place-len-clause-ok c =
     let s = c.self.inside in
     let takes = subst (λ (r : Run). Takes r c.args.at.now) (sym c.self.view_is) c.requires in
-    let len = s.frames.ok.0 in
-    let high : length s.frames.items ≤ c.args.at.now.number - s.first.number =
+    let high : length (forms_of s.frames) ≤ c.args.at.now.number - s.first.number =
     omega (arith, c.if-place-len.false, c.len.ensures) in
-    rw (← c.self.view_is, c.in_ok-push_back.ensures.items)
-    (puts_next s.first s.frames.items c.args.at.now c.args.frame takes high)
+    let After : List Form → Type 0 =
+    λ l. Sends (in_turn s.first (forms_of s.frames)) (in_turn s.first l) c.args.at.now
+    (bytes_of c.args.at.now.epoch c.args.frame) in
+    rw (← c.self.view_is)
+    (on_ok_weaker c.push.result
+    (λ is. subst After (sym is) (puts_next s.first (forms_of s.frames) c.args.at.now c.args.frame takes high))
+    c.push.ensures.ok)
