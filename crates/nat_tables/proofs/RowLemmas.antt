@@ -8,7 +8,7 @@ use Rattle.std.specs.Cmp.{IsEquivalence}
 use Rattle.std.specs.Map.{lookup}
 use Rattle.std.proofs.lemmas.Bool.{eqb-true}
 use Rattle.std.proofs.lemmas.Bool.Decides.{nat_tests}
-use Rattle.nat_tables.specs.Rows.{present, row_at, IsAbsent, StandsAt, AreKept}
+use Rattle.nat_tables.specs.Rows.{present, row_at, IsAbsent, StandsAt, AreKept, AreApart, AreFound}
 
 module _ {A : Type 0} where
   pub row_inside : (rows : List (Option A)) (at : ℕ) (entry : A) → row_at rows at ≡ Some entry → at < length rows
@@ -135,6 +135,11 @@ module _ {A : Type 0} where
   from_swept (Some x ∷ rows) (suc i) zero entry is = (0, omega arith, is)
   from_swept (Some x ∷ rows) (suc i) (suc at) entry is =
       let h = from_swept rows i at entry is in let less = h.1 in (suc h.0, omega arith, h.2)
+
+-- the rows before this one have other keys
+abbrev pub AreOthers : {K V : Type 0} → (K → K → Bool) → K → ℕ → List (Option (K × V)) → Type 0
+AreOthers {K} {V} eq key at rows =
+    (k : ℕ) (entry : K × V) → k < at → row_at rows k ≡ Some entry → eq key entry.0 ≡ false
 
 module _ {K : Type 0} (eq : K → K → Bool) (laws : IsEquivalence eq) where
   -- equal keys have one place
@@ -285,12 +290,161 @@ module _ {K V : Type 0} (eq : K → K → Bool) (laws : IsEquivalence eq) where
           let here : k ≡ at = cc in omega arith)
       by false apart = apart
 
-  pub absent_swept : (places : List (K × ℕ)) (count : ℕ) (rows : List (Option (K × V))) (at : ℕ) (entry : K × V)
-      → AreKept eq places count rows → row_at rows at ≡ Some entry
+  pub absent_swept : (count : ℕ) (rows : List (Option (K × V))) (at : ℕ) (entry : K × V)
+      → AreApart eq count rows → row_at rows at ≡ Some entry
       → IsAbsent eq entry.0 (map (λ (e : K × V). Some e) (present (take at rows)))
-  absent_swept places count rows at entry kept is k other there =
+  absent_swept count rows at entry all is k other there =
       let h = from_swept rows at k other there in
-      apart_before places count rows at h.0 entry other kept is h.2 h.1
+      all.apart at h.0 entry other is h.2 h.1
+
+  -- rows of which each has the key of one in the same place stay apart
+  apart_still : (rows more : List (Option (K × V))) (count : ℕ)
+      → ((k : ℕ) (x : K × V) → row_at more k ≡ Some x → (y : K × V) × (row_at rows k ≡ Some y) × (y.0 ≡ x.0))
+      → AreApart eq count rows → (at k : ℕ) (entry other : K × V) → row_at more at ≡ Some entry
+      → row_at more k ≡ Some other → k < at → eq entry.0 other.0 ≡ false
+  apart_still rows more count from all at k entry other is there less =
+      let e = from at entry is in
+      let o = from k other there in
+      rw (← e.2, ← o.2) (all.apart at k e.0 o.0 e.1 o.1 less)
+
+  apart_put : (count : ℕ) (rows : List (Option (K × V))) (at : ℕ) (entry : K × V) (value : V) → AreApart eq count rows
+      → row_at rows at ≡ Some entry → AreApart eq count (set rows at (Some (entry.0, value)))
+  apart_put count rows at entry value all is = record {
+    apart = apart_still rows new count (λ k x at_k. by k x at_k (k == at) refl) all;
+    counted = all.counted ∙ sym (as_many_present rows at entry (entry.0, value) is);
+  }
+    where
+      new : List (Option (K × V))
+      new = set rows at (Some (entry.0, value))
+
+      by : (k : ℕ) (x : K × V) → row_at new k ≡ Some x → (b : Bool) → (k == at) ≡ b
+          → (y : K × V) × (row_at rows k ≡ Some y) × (y.0 ≡ x.0)
+      by k x at_k true t =
+          let here : at ≡ k = sym (eqb-true _ _ t) in
+          let there : row_at new k ≡ Some (entry.0, value) =
+          subst (λ (j : ℕ). row_at new j ≡ Some (entry.0, value)) here
+          (row_set_same rows at (Some (entry.0, value)) (row_inside rows at entry is)) in
+          let same : entry.0 ≡ x.0 = cc in
+          (entry, subst (λ (j : ℕ). row_at rows j ≡ Some entry) here is, same)
+      by k x at_k false t =
+          let apart : k ≢ at = (λ same. grind (arith, nat_tests)) in
+          (x, sym (row_set_other rows at k (Some (entry.0, value)) apart) ∙ at_k, refl)
+
+  apart_clear : (count less : ℕ) (rows : List (Option (K × V))) (at : ℕ) (entry : K × V) → AreApart eq count rows
+      → row_at rows at ≡ Some entry → less + 1 ≡ count → AreApart eq less (set rows at None)
+  apart_clear count less rows at entry all is one = record {
+    apart = apart_still rows new count (λ k x at_k. by k x at_k (k == at) refl) all;
+    counted = let h = fewer_present rows at entry is in let c = all.counted in omega arith;
+  }
+    where
+      new : List (Option (K × V))
+      new = set rows at None
+
+      by : (k : ℕ) (x : K × V) → row_at new k ≡ Some x → (b : Bool) → (k == at) ≡ b
+          → (y : K × V) × (row_at rows k ≡ Some y) × (y.0 ≡ x.0)
+      by k x at_k true t = absurd
+          (let here : at ≡ k = sym (eqb-true _ _ t) in
+          let there : row_at new k ≡ None =
+          subst (λ (j : ℕ). row_at new j ≡ None) here (row_set_same rows at None (row_inside rows at entry is)) in cc)
+      by k x at_k false t =
+          let apart : k ≢ at = (λ same. grind (arith, nat_tests)) in
+          (x, sym (row_set_other rows at k None apart) ∙ at_k, refl)
+
+  apart_push : (count : ℕ) (rows : List (Option (K × V))) (key : K) (value : V) → AreApart eq count rows
+      → IsAbsent eq key rows → AreApart eq (count + 1) (rows ++ Some (key, value) ∷ [])
+  apart_push count rows key value all absent = record {
+    apart = λ at k entry other is there less. by at k entry other is there less (at == length rows) refl;
+    counted =
+        let more = ap length (present_more rows (key, value)) in
+        let sum = length-append (present rows) ((key, value) ∷ []) in
+        let c = all.counted in omega (arith, more, sum, c);
+  }
+    where
+      new : List (Option (K × V))
+      new = rows ++ Some (key, value) ∷ []
+
+      inside : (at : ℕ) (entry : K × V) → row_at new at ≡ Some entry → at < length rows + 1
+      inside at entry is =
+          let h = row_inside new at entry is in
+          let sum = length-append rows (Some (key, value) ∷ []) in omega (arith, h, sum)
+
+      old : (k : ℕ) (x : K × V) → row_at new k ≡ Some x → k < length rows → row_at rows k ≡ Some x
+      old k x at_k less = sym (row_kept rows (Some (key, value)) k (λ same. omega arith)) ∙ at_k
+
+      by : (at k : ℕ) (entry other : K × V) → row_at new at ≡ Some entry → row_at new k ≡ Some other → k < at
+          → (b : Bool) → (at == length rows) ≡ b → eq entry.0 other.0 ≡ false
+      by at k entry other is there less true t =
+          let here : length rows ≡ at = sym (eqb-true _ _ t) in
+          let last : row_at new at ≡ Some (key, value) =
+          subst (λ (j : ℕ). row_at new j ≡ Some (key, value)) here (row_added rows (Some (key, value))) in
+          let same : entry.0 ≡ key = cc in
+          rw same (absent k other (old k other there (omega arith)))
+      by at k entry other is there less false t =
+          let apart : at ≢ length rows = (λ same. grind (arith, nat_tests)) in
+          let bound = inside at entry is in
+          all.apart at k entry other (sym (row_kept rows (Some (key, value)) at apart) ∙ is)
+          (old k other there (omega (arith, bound, less))) less
+
+  pub found_apart : (b : Bool) (places : List (K × ℕ)) (count : ℕ) (rows : List (Option (K × V)))
+      → AreFound eq b places count rows → AreApart eq count rows
+  found_apart true places count rows kept = record {
+    apart = λ at k entry other is there less. apart_before places count rows at k entry other kept is there less;
+    counted = kept.counted;
+  }
+  found_apart false places count rows all = all
+
+  pub found_kept : (b : Bool) (places : List (K × ℕ)) (count : ℕ) (rows : List (Option (K × V))) → b ≡ true
+      → AreFound eq b places count rows → AreKept eq places count rows
+  found_kept true places count rows is kept = kept
+  found_kept false places count rows is all = absurd (cc)
+
+  pub found_put : (b : Bool) (places : List (K × ℕ)) (count : ℕ) (rows : List (Option (K × V))) (at : ℕ)
+      (entry : K × V) (value : V) → AreFound eq b places count rows → row_at rows at ≡ Some entry
+      → AreFound eq b places count (set rows at (Some (entry.0, value)))
+  found_put true places count rows at entry value = kept_put places count rows at entry value
+  found_put false places count rows at entry value = apart_put count rows at entry value
+
+  pub found_clear : (b : Bool) (places left : List (K × ℕ)) (count less : ℕ) (rows : List (Option (K × V))) (at : ℕ)
+      (entry : K × V) → AreFound eq b places count rows → row_at rows at ≡ Some entry
+      → ((q : K) → lookup (eq q) left ≡ cond (eq entry.0 q) None (lookup (eq q) places)) → less + 1 ≡ count
+      → (lookup (eq entry.0) places ≡ Some at → length left + 1 ≡ length places)
+      → AreFound eq b left less (set rows at None)
+  found_clear true places left count less rows at entry kept is others one shrunk =
+      kept_clear places left count less rows at entry kept is others one (shrunk (kept.placed at entry is))
+  found_clear false places left count less rows at entry all is others one shrunk =
+      apart_clear count less rows at entry all is one
+
+  pub found_push : (b : Bool) (places more : List (K × ℕ)) (count place : ℕ) (rows : List (Option (K × V))) (key : K)
+      (value : V) → AreFound eq b places count rows → IsAbsent eq key rows → place ≡ length rows
+      → ((q : K) → lookup (eq q) more ≡ cond (eq key q) (Some place) (lookup (eq q) places))
+      → length more ≤ length places + 1
+      → AreFound eq b more (count + 1) (rows ++ Some (key, value) ∷ [])
+  found_push true places more count place rows key value kept absent last others grown =
+      kept_push places more count place rows key value kept absent last others grown
+  found_push false places more count place rows key value all absent last others grown =
+      apart_push count rows key value all absent
+
+module _ {K V : Type 0} (eq : K → K → Bool) (key : K) (rows : List (Option (K × V))) where
+  pub others_next : (at : ℕ) → AreOthers eq key at rows
+      → ((entry : K × V) → row_at rows at ≡ Some entry → eq key entry.0 ≡ false) → AreOthers eq key (at + 1) rows
+  others_next at others here k entry less is = by (k == at) refl
+    where
+      by : (b : Bool) → (k == at) ≡ b → eq key entry.0 ≡ false
+      by true t = here entry (subst (λ (j : ℕ). row_at rows j ≡ Some entry) (eqb-true _ _ t) is)
+      by false t = others k entry (grind (arith, nat_tests)) is
+
+  pub stands_here : (at : ℕ) (own : K) (value : V) → AreOthers eq key at rows → row_at rows at ≡ Some (own, value)
+      → eq key own ≡ true → StandsAt eq key rows at value
+  stands_here at own value others is same = record {
+    own = own;
+    row = is;
+    same = same;
+    others = others;
+  }
+
+  pub others_all : (at : ℕ) → length rows ≤ at → AreOthers eq key at rows → IsAbsent eq key rows
+  others_all at past others k entry is =
+      let inside = row_inside rows k entry is in others k entry (omega (arith, inside, past)) is
 
 -- one more at most
 pub one_more : (m n : ℕ) (b : Bool) → m ≡ n + (if b then 0 else 1) → m ≤ n + 1

@@ -34,3 +34,14 @@ pub record AreKept {K V : Type 0} (eq : K → K → Bool) (places : List (K × �
   pub placed : (at : ℕ) (entry : K × V) → row_at rows at ≡ Some entry → lookup (eq entry.0) places ≡ Some at
   pub counted : count ≡ length (present rows)
   pub few : length places ≤ count
+
+-- no two rows have the same key; the entries are so many
+pub record AreApart {K V : Type 0} (eq : K → K → Bool) (count : ℕ) (rows : List (Option (K × V))) : Type 0 where
+  pub apart : (at k : ℕ) (entry other : K × V) → row_at rows at ≡ Some entry → row_at rows k ≡ Some other → k < at
+      → eq entry.0 other.0 ≡ false
+  pub counted : count ≡ length (present rows)
+
+-- keys are found by their places where they are indexed, and else by looking at each row
+abbrev pub AreFound : {K V : Type 0} → (K → K → Bool) → Bool → List (K × ℕ) → ℕ → List (Option (K × V)) → Type 0
+AreFound eq true places count rows = AreKept eq places count rows
+AreFound eq false places count rows = AreApart eq count rows

@@ -14,8 +14,10 @@ use std::marker::Model;
 #[derive(Debug, Drop)]
 pub(crate) struct FirstSeen<K: Copy + Eq + Hash, V: Copy> {
     rows: Vec<Option<(K, V)>>,
-    /// The row of each key that has one.
+    /// The row of each key that has one. Where rows are not indexed, some keys may have none here.
     places: IndexMap<K, usize>,
+    /// Whether a key is found by its place, or by looking at each row.
+    indexed: bool,
     /// How many rows are not empty.
     count: usize,
 }
@@ -25,11 +27,11 @@ impl<K: Copy + Eq + Hash, V: Copy> Model for FirstSeen<K, V> {
 
     ghost Value = { List (Option (K × V)) };
 
-    ghost use Rattle.nat_tables.specs.Rows.{AreKept};
+    ghost use Rattle.nat_tables.specs.Rows.{AreFound};
 
     ghost view = { λ t. t.rows.items };
 
-    ghost invariant = { λ t. AreKept K.eq t.places.entries t.count t.rows.items };
+    ghost invariant = { λ t. AreFound K.eq t.indexed t.places.entries t.count t.rows.items };
 }
 
 impl<K: Copy + Eq + Hash, V: Copy> FirstSeen<K, V> {
@@ -40,6 +42,7 @@ impl<K: Copy + Eq + Hash, V: Copy> FirstSeen<K, V> {
         FirstSeen {
             rows: Vec::new(alloc),
             places: IndexMap::new(alloc),
+            indexed: true,
             count: 0,
         }
     }
@@ -51,8 +54,14 @@ impl<K: Copy + Eq + Hash, V: Copy> FirstSeen<K, V> {
         Ok(FirstSeen {
             rows: Vec::with_capacity(alloc, count)?,
             places: IndexMap::with_capacity(alloc, count)?,
+            indexed: true,
             count: 0,
         })
+    }
+
+    /// Whether a key is found in no time. Where it is not, each row is looked at.
+    pub(crate) fn is_indexed(&self) -> bool {
+        self.indexed
     }
 
     /// How many rows there are, empty ones included.
@@ -81,11 +90,29 @@ impl<K: Copy + Eq + Hash, V: Copy> FirstSeen<K, V> {
         }
     }
 
+    /// As `find`, by looking at each row.
+    fn scan(&self, key: &K) -> Option<(usize, V)>
+        ensures { MatchOption result (IsAbsent K.eq key.now self.now)
+            (λ found. StandsAt K.eq key.now self.now found.0 found.1) }
+    {
+        for at in 0..self.rows() {
+            if let Some(entry) = self.row(at) {
+                if *key == entry.0 {
+                    return Some((at, entry.1));
+                }
+            }
+        }
+        None
+    }
+
     /// The row of a key, and its value. None exactly where the key has no row.
     pub(crate) fn find(&self, key: &K) -> Option<(usize, V)>
         ensures { MatchOption result (IsAbsent K.eq key.now self.now)
             (λ found. StandsAt K.eq key.now self.now found.0 found.1) }
     {
+        if !self.indexed {
+            return self.scan(key);
+        }
         let at = *self.places.get(key)?;
         let (own, value) = self.row(at)?;
         if *key == own { Some((at, value)) } else { None }
@@ -141,7 +168,19 @@ impl<K: Copy + Eq + Hash, V: Copy> FirstSeen<K, V> {
         Ok(())
     }
 
-    /// The same entries with no empty row.
+    /// The same rows, not indexed: the copy is one of a block of memory, and takes no time for each key.
+    pub(crate) fn copy(&self, alloc: Global) -> Result<Self, NoMemory>
+        ensures { IfOk result (λ copy. copy ≡ self.now) }
+    {
+        Ok(FirstSeen {
+            rows: Vec::from_slice(alloc, &self.rows)?,
+            places: IndexMap::new(alloc),
+            indexed: false,
+            count: self.count,
+        })
+    }
+
+    /// The same entries, indexed, with no empty row.
     pub(crate) fn swept(&self, alloc: Global) -> Result<Self, NoMemory>
         ensures { IfOk result (λ swept. swept ≡ map (λ entry. Some entry) (present self.now)) }
     {

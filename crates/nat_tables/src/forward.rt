@@ -140,7 +140,8 @@ fn times_of(
     Ok(times)
 }
 
-/// Room for one more row: where there is none, the empty rows go, and there is room for as many again.
+/// Room for one more row: where there is none, or rows are not indexed, the empty rows go, and there is room for as
+/// many again.
 fn make_room(
     alloc: Global,
     slots: &mut FirstSeen<Endpoint, Slot>,
@@ -151,7 +152,7 @@ fn make_room(
     ensures same { present slots.new ≡ present slots.old }
     ensures room { OnOk result (length slots.new < length live.new) }
 {
-    if slots.rows() < live.len() {
+    if slots.is_indexed() && slots.rows() < live.len() {
         return Ok(());
     }
     let swept = slots.swept(alloc)?;
@@ -372,10 +373,19 @@ impl Forward {
         })
     }
 
-    /// A table with the same mappings, in the same order.
+    /// A table with the same mappings, in the same order. A copy of a table that finds endpoints in no time looks at
+    /// each mapping until it gets a new one: mostly it is kept, and never asked. The copy of such a copy finds them in
+    /// no time again.
     pub fn copy(&self) -> Result<Self, NoMemory>
         ensures { IfOk result (λ copy. copy ≡ self.now) }
     {
+        if self.slots.is_indexed() {
+            return Ok(Forward {
+                slots: self.slots.copy(self.alloc)?,
+                live_until: self.live_until.copy(self.alloc)?,
+                alloc: self.alloc,
+            });
+        }
         let slots = self.slots.swept(self.alloc)?;
         Ok(Forward {
             live_until: times_of(self.alloc, &slots, slots.rows())?,

@@ -30,11 +30,11 @@ impl Model for Reverse {
     ghost view = { λ t. present t.endpoints };
 }
 
-/// Where more than half of the rows are empty, they go.
+/// Where more than half of the rows are empty, or rows are not indexed, the empty ones go.
 fn sweep(alloc: Global, endpoints: &mut FirstSeen<PortKey, Endpoint>) -> Result<(), NoMemory>
     ensures { present endpoints.new ≡ present endpoints.old }
 {
-    if endpoints.rows() / 2 < endpoints.len() + 32 {
+    if endpoints.is_indexed() && endpoints.rows() / 2 < endpoints.len() + 32 {
         return Ok(());
     }
     let swept = endpoints.swept(alloc)?;
@@ -106,10 +106,17 @@ impl Reverse {
         })
     }
 
-    /// A table with the same bound ports, in the same order.
+    /// A table with the same bound ports, in the same order. As with `Forward`, a copy looks at each port until it
+    /// gets a new one, and the copy of a copy finds them in no time.
     pub fn copy(&self) -> Result<Self, NoMemory>
         ensures { IfOk result (λ copy. copy ≡ self.now) }
     {
+        if self.endpoints.is_indexed() {
+            return Ok(Reverse {
+                endpoints: self.endpoints.copy(self.alloc)?,
+                alloc: self.alloc,
+            });
+        }
         Ok(Reverse {
             endpoints: self.endpoints.swept(self.alloc)?,
             alloc: self.alloc,

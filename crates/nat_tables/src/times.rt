@@ -103,6 +103,24 @@ impl Times {
         })
     }
 
+    /// The same times.
+    pub(crate) fn copy(&self, alloc: Global) -> Result<Self, NoMemory>
+        ensures { IfOk result (λ copy. copy ≡ self.now) }
+    {
+        let times = Vec::from_slice(alloc, &self.times)?;
+        let Pairs::Of(pairs) = &self.pairs else {
+            return Ok(Times {
+                times,
+                pairs: Pairs::Alone,
+            });
+        };
+        let pairs = pairs.copy(alloc)?;
+        Ok(Times {
+            times,
+            pairs: Pairs::Of(Box::new(alloc, pairs)?),
+        })
+    }
+
     /// How many times there are.
     pub(crate) fn len(&self) -> usize
         ensures { result ≡ length self.now }
