@@ -11,8 +11,12 @@ use access_log::NarrowStamp;
 use plain_text::{Bytes, NoMemory, Packet};
 use std::alloc::Global;
 use std::marker::Model;
+use std::mem::size_of;
 use thread_clock::Stamp;
 use wire_frames::Output;
+
+// With room for four components a frame takes 88 bytes, and with room for all 16 it would take 136.
+const _: () = prove!(size_of::<NarrowFrame<4>>() == 88);
 
 /// A frame that is kept as its output, with room for the first `N` components of the output's stamp, of which the others
 /// are 0. Contracts see how the frame is kept.
