@@ -10,6 +10,7 @@ mod ending;
 mod program;
 mod racing;
 mod running;
+mod unreadable;
 
 pub use answering::perform;
 pub use choosing::run_words;

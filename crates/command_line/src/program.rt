@@ -14,6 +14,7 @@ ghost use Rattle.world_told.specs.Ledgers.{told_ledger};
 ghost use Rattle.world_told.specs.Orderly.{are_orderly};
 ghost use Rattle.world_told.specs.Sent.{name_of, sent_to};
 
+use crate::unreadable::tell_unreadable;
 use crate::{RealTap, SilentWorld, exit_of, run_words};
 use command_words::{
     Clash, Names, ReportOn, name_streams, one_file, read_words, tell_drops, tell_more,
@@ -89,7 +90,13 @@ pub fn run_program<
         return end(rt, Status::NoMemory);
     };
     let clock = RealClock::new(own);
-    run_arguments(rt, env::args(rt), &clock, errors, rt).code
+    let arguments = env::args(rt);
+    let readable = arguments.is_ok();
+    let code = run_arguments(rt, arguments, &clock, errors, rt).code;
+    if !readable {
+        let _ = tell_unreadable(rt);
+    }
+    code
 }
 
 /// Does what the arguments ask for over the files of the system, and gives back their record. Where the name of an
