@@ -175,13 +175,3 @@ pub made_completes : (r : Result ⊤ OutputError) → ¬ IsErrOf r output.WriteF
 made_completes (Ok done) never = inl refl
 made_completes (Err output.WriteFault) never = absurd (never refl)
 made_completes (Err output.NoMemory) never = inr refl
-
-pub made_refuses : (r : Result ⊤ OutputError) → IsRefusal (outcome_of r) → ⊥
-made_refuses (Ok done) e = e
-made_refuses (Err output.WriteFault) e = e
-made_refuses (Err output.NoMemory) e = e
-
-pub made_not_at_inputs : (r : Result ⊤ OutputError) → stage_of (outcome_of r) ≡ AtInputs → ⊥
-made_not_at_inputs (Ok done) e = cc
-made_not_at_inputs (Err output.WriteFault) e = cc
-made_not_at_inputs (Err output.NoMemory) e = cc
