@@ -31,7 +31,7 @@ use Rattle.job_commands.proofs.Failing.{failed_since}
 use Rattle.job_commands.proofs.FilesInTurn.{four_accepted, four_one, four_pass}
 use Rattle.job_commands.proofs.Others.{check_others}
 use Rattle.job_commands.proofs.Outcomes.{written_since, begun_writes_since, kept_shown}
-use Rattle.job_commands.proofs.Usual.{Ends, IsUsual, stops_early}
+use Rattle.job_commands.proofs.Usual.{Ends, IsUsual}
 
 abbrev Answer : Type 0
 Answer = Result ⊤ (ScheduleError Refutation)
@@ -183,6 +183,5 @@ check_usual names = record {
   few = search rules;
   begins = λ old new same. inl same;
   others = check_others names;
-  stops = λ limit old new at same. stops_early limit old new ⊥ at same;
   completes = λ healthy shown. check_completes healthy names shown;
 }

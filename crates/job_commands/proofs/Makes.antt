@@ -1,5 +1,5 @@
 -- What the command `make` comes to, from what it writes.
-use Rattle.std.proofs.Common.{◌≡◌, [], append-nil, refl, sym, ◌∙◌, inl, inr, Result, Ok, Err}
+use Rattle.std.proofs.Common.{[], append-nil, refl, sym, ◌∙◌, inl, inr, Result, Ok, Err}
 use Rattle.std.specs.Prelude.{⊤, IsErrOf}
 use Rattle.input_files.proofs.OnlyReading.{OpensFirst-none}
 use Rattle.world_io.specs.World.{Start, Shown, Ledger, WritingFailed}

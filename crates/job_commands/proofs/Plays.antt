@@ -23,7 +23,7 @@ use Rattle.job_commands.proofs.Failing.{failed_since}
 use Rattle.job_commands.proofs.FilesInTurn.{three_accepted, three_one, three_pass}
 use Rattle.job_commands.proofs.Others.{play_others}
 use Rattle.job_commands.proofs.Outcomes.{written_since, begun_writes_since, kept_shown}
-use Rattle.job_commands.proofs.Usual.{Ends, IsUsual, stops_early}
+use Rattle.job_commands.proofs.Usual.{Ends, IsUsual}
 
 -- The status, where the inputs are accepted.
 
@@ -38,16 +38,18 @@ module _ (healthy : Type 0) (names : PlayNames) (inputs : ScheduleInputs) (a b c
       → OnOk r (HasPlayed (outcome_for inputs) names.out inputs.capture.unit b c)
       → ((fault : PlayFault) → r ≡ Err (error.Refused fault) → b ≡ c)
       → SaysOf (play_meaning names) (play_outcome r) a c
-  play_says (Ok done) played same =
-      ((
-        inputs,
-        accepts,
-        record {
-          steps = played.steps;
-          legal = played.legal;
-          written = written_since a b c keeps (emitted_writes names.out inputs.capture.unit played.steps) played.written;
-        },
-      ), tt)
+  play_says (Ok done) played same = (
+    (
+      inputs,
+      accepts,
+      record {
+        steps = played.steps;
+        legal = played.legal;
+        written = written_since a b c keeps (emitted_writes names.out inputs.capture.unit played.steps) played.written;
+      },
+    ),
+    tt,
+  )
   play_says (Err (error.Refused fault)) played same = kept_shown a b c keeps (same fault refl)
   play_says (Err error.WriteFault) played same = tt
   play_says (Err error.NoMemory) played same = tt
@@ -157,6 +159,5 @@ play_usual names = record {
   few = search rules;
   begins = λ old new same. inl same;
   others = play_others names;
-  stops = λ limit old new at same. stops_early limit old new ⊥ at same;
   completes = λ healthy shown. play_completes healthy names shown;
 }

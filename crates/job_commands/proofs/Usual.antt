@@ -1,5 +1,5 @@
 -- What a command answers that reads its inputs before it writes: where they are refused, and where it went on.
-use Rattle.std.proofs.Common.{◌≡◌, ℕ, ◌+◌, ◌≤◌, arith, ◌∙◌, ap, length, inl, inr, refl, Result, Ok, Err}
+use Rattle.std.proofs.Common.{◌≡◌, ℕ, ◌+◌, ◌≤◌, arith, ◌∙◌, length, inl, inr, refl, Result, Ok, Err}
 use Rattle.std.specs.Prelude.{⊤, IsErrOf, OnOk}
 use Rattle.plain_text.specs.declared.limit.Limit.{Limit}
 use Rattle.plain_text.specs.declared.limit.Limit.TheVariants as limit_of
@@ -16,7 +16,8 @@ use Rattle.job_commands.specs.declared.status.Status.TheVariants.{Done, Refuted,
 use Rattle.job_commands.specs.declared.status.Status.TheVariants.{NoMemory, BadInput, TooLarge, Unready}
 use Rattle.job_commands.specs.Answers.{AnswersAs, Counts, SaysOf}
 use Rattle.job_commands.specs.Meanings.{CommandMeaning, StopsBy}
-use Rattle.job_commands.specs.Status.{AtInputs, AtOutputs, ComesAt, EndsReading, run_outcome, stage_of_limit}
+use Rattle.job_commands.specs.Status.{AtInputs, AtOutputs, ComesAt, EndsReading, IsRefusal, run_outcome}
+use Rattle.job_commands.specs.Status.{stage_of_limit}
 use Rattle.job_commands.proofs.Failing.{failed_since}
 use Rattle.job_commands.proofs.Outcomes.{kept}
 
@@ -26,9 +27,6 @@ pub record IsUsual (command : CommandMeaning) : Type 1 where
   -- what changes nothing has begun nothing, and what is begun in order keeps the other names
   pub begins : (old new : Shown) → KeepsShown old new → command.LeavesInOrder old new
   pub others : (old new : Shown) → command.LeavesInOrder old new → command.KeepsNames old new
-  -- limits of the inputs leave nothing
-  pub stops : (limit : Limit) (old new : Shown) → stage_of_limit limit ≡ AtInputs → KeepsShown old new
-      → command.StopsAt limit old new
   -- accepted inputs
   pub completes : (healthy : Type 0) (shown : Shown) → healthy → command.Accepts shown → (status : Status)
       → command.Judges healthy status shown → command.CompletesAs status
@@ -59,6 +57,12 @@ limit_stage limit_of.Events (inr at) = refl
 limit_stage limit_of.Moves (inr at) = absurd (cc)
 limit_stage limit_of.OutputBytes (inr at) = absurd (cc)
 
+-- what it leaves whose inputs pass a limit
+abbrev pub StopsEarly : CommandMeaning → Status → Shown → Shown → Type 0
+StopsEarly command status old new =
+    (limit : Limit) → status ≡ TooLarge limit → stage_of_limit limit ≡ AtInputs → KeepsShown old new
+    → command.StopsAt limit old new
+
 -- what is said by one beginning of a command whose inputs are accepted
 pub record Ends (command : CommandMeaning) (healthy : Type 0) (status : Status) (old new : Shown) : Type 0 where
   pub says : SaysOf command status old new
@@ -66,17 +70,17 @@ pub record Ends (command : CommandMeaning) (healthy : Type 0) (status : Status) 
   pub judged : command.Judges healthy status old
 
 module _ (command : CommandMeaning) (usual : IsUsual command) where
-  refused_says : (status : Status) (old new : Shown) → EndsReading status → ComesAt AtInputs status
-      → KeepsShown old new → SaysOf command status old new
-  refused_says Done old new quiet at same = absurd quiet
-  refused_says (Refuted refutation) old new quiet at same = same
-  refused_says BadWords old new quiet at same = absurd quiet
-  refused_says ReadFault old new quiet at same = same
-  refused_says WriteFault old new quiet at same = tt
-  refused_says NoMemory old new quiet at same = tt
-  refused_says (BadInput fault) old new quiet at same = same
-  refused_says (TooLarge limit) old new quiet at same = usual.stops limit old new (limit_stage limit at) same
-  refused_says (Unready unready) old new quiet at same = absurd quiet
+  pub refused_says : (status : Status) (old new : Shown) → EndsReading status → ComesAt AtInputs status
+      → StopsEarly command status old new → KeepsShown old new → SaysOf command status old new
+  refused_says Done old new quiet at stops same = absurd quiet
+  refused_says (Refuted refutation) old new quiet at stops same = same
+  refused_says BadWords old new quiet at stops same = absurd quiet
+  refused_says ReadFault old new quiet at stops same = same
+  refused_says WriteFault old new quiet at stops same = tt
+  refused_says NoMemory old new quiet at stops same = tt
+  refused_says (BadInput fault) old new quiet at stops same = same
+  refused_says (TooLarge limit) old new quiet at stops same = stops limit refl (limit_stage limit at) same
+  refused_says (Unready unready) old new quiet at stops same = absurd quiet
 
   module _ {W : Type 0} (honest : Start → W → Type 0) (shows : Start → W → Shown) (ledger : W → Ledger)
       (healthy : W → Type 0) (old read : W) (reads : OnlyReads ledger healthy command.inputs old read) where
@@ -98,15 +102,16 @@ module _ (command : CommandMeaning) (usual : IsUsual command) where
         → (status ≡ ReadFault → Rose (ledger old).read_faults (ledger read).read_faults)
         → ((p : Start) → honest p read → command.Judges (healthy old) status (shows p old))
         → ((p : Start) → honest p read → ComesAt AtInputs status)
+        → ((p : Start) → honest p read → StopsEarly command status (shows p old) (shows p read))
         → ((p : Start) → honest p read → KeepsOutputs (shows p old) (shows p read))
         → ((p : Start) → honest p read → honest p old)
         → AnswersAs honest shows ledger healthy command status old read
-    refused_answers status quiet cause judged stage keeps before = record {
+    refused_answers status quiet cause judged stage stops keeps before = record {
       bytes = λ p q.
           let same = kept _ _ (keeps p q) in
           let begun = usual.begins (shows p old) (shows p read) same in
           record {
-            says = refused_says status (shows p old) (shows p read) quiet (stage p q) same;
+            says = refused_says status (shows p old) (shows p read) quiet (stage p q) (stops p q) same;
             in_order = begun;
             others = usual.others _ _ begun;
             judged = judged p q;
@@ -164,6 +169,22 @@ module _ (command : CommandMeaning) (usual : IsUsual command) where
           → ((p : Start) → honest p new → honest p old)
           → AnswersAs honest shows ledger healthy command (run_outcome r) old new
       run_answers r few cause ends before = accepted_answers (run_outcome r) few (run_counts r cause) ends before
+
+-- What an answer says of the ledger, where each is told apart.
+pub counts_of : {W : Type 0} (ledger : W → Ledger) (healthy : W → Type 0) (command : CommandMeaning) (old new : W)
+    (status : Status) → (status ≡ BadWords → ⊥) → (status ≡ Done → OpensAll command.inputs (ledger old) (ledger new))
+    → (IsRefusal status → (ledger new).created ≡ (ledger old).created)
+    → (status ≡ ReadFault → Rose (ledger old).read_faults (ledger new).read_faults)
+    → (status ≡ WriteFault → WritingFailed ledger healthy old new) → Counts ledger healthy command status old new
+counts_of ledger healthy command old new Done words opened created read failed = opened refl
+counts_of ledger healthy command old new (Refuted refutation) words opened created read failed = created tt
+counts_of ledger healthy command old new BadWords words opened created read failed = words refl
+counts_of ledger healthy command old new ReadFault words opened created read failed = (read refl, created tt)
+counts_of ledger healthy command old new WriteFault words opened created read failed = failed refl
+counts_of ledger healthy command old new NoMemory words opened created read failed = tt
+counts_of ledger healthy command old new (BadInput fault) words opened created read failed = created tt
+counts_of ledger healthy command old new (TooLarge limit) words opened created read failed = tt
+counts_of ledger healthy command old new (Unready unready) words opened created read failed = tt
 
 -- what a run says of the outputs
 pub run_says : (command : CommandMeaning) (old new : Shown) (r : Result ⊤ RunError)

@@ -8,7 +8,8 @@ ghost use Rattle.job_commands.specs.Making.{made_writes, make_meaning};
 ghost use Rattle.job_commands.specs.Words.{made_of};
 ghost use Rattle.world_io.specs.World.{Start, WritingFailed};
 
-use crate::{MakeWords, Status, outcome};
+use crate::status::outcome;
+use crate::{MakeWords, Status};
 use output_files::OutputError;
 use plain_text::{NoMemory, Packets, Unit};
 use schedule_commands::{put_count, write_capture};

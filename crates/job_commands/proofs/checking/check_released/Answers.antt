@@ -3,7 +3,7 @@ use Rattle.job_commands.specs.Schedules.{EndsCheck, check_meaning}
 use Rattle.job_commands.specs.Words.{check_names_of}
 use Rattle.job_commands.proofs.FilesInTurn.{four_refused}
 use Rattle.job_commands.proofs.Finds.{check_counts, check_ends, check_usual, no_files}
-use Rattle.job_commands.proofs.Usual.{accepted_answers, refused_answers}
+use Rattle.job_commands.proofs.Usual.{accepted_answers, refused_answers, stops_early}
 use Rattle.job_commands.proofs.checking.check_released.Goals as goal
 
 -- its inputs are accepted
@@ -40,4 +40,4 @@ returns-in-Err g c =
     refused_answers (check_meaning names) (check_usual names) _ g.W.World.shows _ g.W.World.healthy _ _ is.only_reads
     c.in-Err.status is.quiet (λ e. is.cause (ap Err e))
     (λ p q. four_refused healthy names (g.W.World.shows p c.args.world.now) (EndsCheck healthy) c.in-Err.status
-    (is.judged p q)) is.stage is.keeps is.before
+    (is.judged p q)) is.stage (λ p q limit large at same. stops_early limit _ _ ⊥ at same) is.keeps is.before

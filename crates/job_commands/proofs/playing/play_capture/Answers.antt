@@ -3,7 +3,7 @@ use Rattle.job_commands.specs.Schedules.{EndsPlay, play_meaning}
 use Rattle.job_commands.specs.Words.{play_names_of}
 use Rattle.job_commands.proofs.FilesInTurn.{three_refused}
 use Rattle.job_commands.proofs.Plays.{play_counts, play_ends, play_usual}
-use Rattle.job_commands.proofs.Usual.{accepted_answers, refused_answers}
+use Rattle.job_commands.proofs.Usual.{accepted_answers, refused_answers, stops_early}
 use Rattle.job_commands.proofs.playing.play_capture.Goals as goal
 
 -- its inputs are accepted
@@ -39,4 +39,4 @@ returns-in-Err g c =
     refused_answers (play_meaning names) (play_usual names) _ g.W.World.shows _ g.W.World.healthy _ _ is.only_reads
     c.in-Err.status is.quiet (λ e. is.cause (ap Err e))
     (λ p q. three_refused healthy names.files (g.W.World.shows p c.args.world.now) (EndsPlay healthy) c.in-Err.status
-    (is.judged p q)) is.stage is.keeps is.before
+    (is.judged p q)) is.stage (λ p q limit large at same. stops_early limit _ _ ⊥ at same) is.keeps is.before
