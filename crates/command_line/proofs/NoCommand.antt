@@ -36,7 +36,7 @@ asks_nothing (word ∷ []) text = refl
 asks_nothing (first ∷ word ∷ []) text = refl
 asks_nothing (first ∷ second ∷ third ∷ more) text = absurd (text refl)
 
-if_none : (words : List (List ℕ)) (Holds : Asked → Type 0) → asked words ≡ None → IfAsks words Holds
+pub if_none : (words : List (List ℕ)) (Holds : Asked → Type 0) → asked words ≡ None → IfAsks words Holds
 if_none words Holds none = subst (λ (asks : Option Asked). IfSome asks Holds) (sym none) tt
 
 pub prints_text : (words : List (List ℕ)) (text : List ℕ) (status : Status) (old new : Shown)

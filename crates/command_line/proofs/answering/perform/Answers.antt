@@ -1,14 +1,16 @@
 use Rattle.std.proofs.Common.{ℕ, sym, ◌∙◌}
 use Rattle.job_top.proofs.Answered.{creates_nothing, few_given, honest_before, read_rose, stays_orderly, write_failed}
-use Rattle.command_line.proofs.NoCommand.{asks_nothing, if_none, prints_nothing, some_text}
+use Rattle.command_line.proofs.NoCommand.{asks_nothing, if_none, prints_nothing}
 use Rattle.command_line.proofs.answering.perform.Goals as goal
 
 -- the words ask for a text
 
 pub returns-in-Some-clause-answers : goal.returns-in-Some-clause-answers
 returns-in-Some-clause-answers g c =
-    if_none c.args.words.now _ (asks_nothing c.args.words.now
-    (some_text _ _ (sym c.in-Ok.ensures.text ∙ c.in-Some.is)))
+    if_none c.args.words.now _ (asks_nothing c.args.words.now (λ none.
+    let some = c.in-Some.is in
+    let never = c.in-Ok.ensures.text ∙ none in
+    cc))
 
 -- or for a command
 
