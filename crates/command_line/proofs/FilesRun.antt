@@ -13,8 +13,9 @@ use Rattle.world_told.specs.Honest.{IsHonest}
 use Rattle.world_told.specs.Ledgers.{told_ledger}
 use Rattle.job_commands.specs.declared.status.Status.{Status}
 use Rattle.job_commands.specs.declared.status.Status.TheVariants.{BadWords}
-use Rattle.job_top.specs.Answers.{Answers, AnswersBytes}
-use Rattle.release_taps.specs.Split.{AsksForTaps, behind_pairs}
+use Rattle.job_top.specs.Answers.{Answers, AnswersBytesOf}
+use Rattle.job_top.proofs.Answered.{if_so}
+use Rattle.release_taps.specs.Split.{behind_pairs}
 use Rattle.command_line.specs.Running.{AskedNothing, AsksToWatch, HasClash, IsNotBegun, PrintsFiles, Runs, RunsFiles}
 use Rattle.command_words.specs.Clashes.{Clashes}
 use Rattle.command_words.specs.Pipes.{ArePiped}
@@ -40,8 +41,12 @@ runs_files {W} ledger may faults refused words status old new printed none runs 
   bad_words = runs.bad_words;
   nothing_asked = λ bad. ap (λ (t : WithCalls W). t.calls) (runs.nothing_asked bad) ∙ none;
   performs = λ plain p h.
+      let said = runs.performs plain in
       subst (λ (calls : List Event). Performs ⊥ may words status (shown_after p calls) (shown_after p new.calls)) none
-      ((runs.performs plain).bytes p h);
+      (record {
+        prints = said.prints p h;
+        answers = if_so words _ _ (λ command answers. answers.bytes p h) said.answers;
+      });
   watches = λ watch p h.
       subst (λ (calls : List Event). Watches ⊥ words status (shown_after p calls)) none
       ((runs.watches watch).bytes p h);
@@ -52,12 +57,13 @@ runs_files {W} ledger may faults refused words status old new printed none runs 
         ⊎ Answers {W = WithCalls W} (λ p t. IsHonest p t.calls) (λ p t. shown_after p t.calls) (told_ledger ledger)
         (λ _. ⊥) may (behind_pairs pairs words) status old new
         → IsNotBegun faults refused status [] new.calls ⊎ ((p : Start) → IsHonest p new.calls
-        → AnswersBytes ⊥ may (behind_pairs pairs words) status (shown_after p []) (shown_after p new.calls))
+        → AnswersBytesOf ⊥ may (behind_pairs pairs words) status (shown_after p []) (shown_after p new.calls))
     tapped pairs (inl not) =
         inl (record { cause = not.cause; same = ap (λ (t : WithCalls W). t.calls) not.same ∙ none })
     tapped pairs (inr answers) = inr (λ p h.
-        subst (λ (calls : List Event). AnswersBytes ⊥ may (behind_pairs pairs words) status (shown_after p calls)
-        (shown_after p new.calls)) none (answers.bytes p h))
+        subst (λ (calls : List Event). AnswersBytesOf ⊥ may (behind_pairs pairs words) status (shown_after p calls)
+        (shown_after p new.calls)) none
+        (if_so (behind_pairs pairs words) _ _ (λ command said. said.bytes p h) answers.answers))
 
 -- what it prints
 pub prints_files : {W V : Type 0} (words : List (List ℕ)) (status : Status) (old new : WithCalls W)

@@ -1,7 +1,6 @@
 -- Words of `live`: no capture is watched, and no text printed. And what is promised of words that ask for no rounds
 -- holds whatever a clock may answer.
 use Rattle.std.proofs.Common.{◌≡◌, ◌⊎◌, ℕ, List, [], ◌∷◌, Bool, true, false, Option, None, Some, ap, inl, inr, refl}
-use Rattle.std.proofs.Common.{subst}
 use Rattle.std.proofs.Common.{sym, ◌∙◌}
 use Rattle.std.proofs.lemmas.Slice.Eq.{bytes_eq-Decides}
 use Rattle.std.specs.Prelude.{◌&&◌, if◌then◌else◌, codes, is_some, MatchOption}
@@ -9,10 +8,13 @@ use Rattle.std.specs.Str.{bytes_eq}
 use Rattle.world_io.specs.World.{Start, Shown, Ledger}
 use Rattle.job_commands.specs.declared.status.Status.{Status}
 use Rattle.job_commands.specs.Words.{LiveNames, are_apart, live_names, live_with}
-use Rattle.job_top.specs.Answers.{Answers, AnswersBytes}
-use Rattle.job_top.proofs.Lives.{leaves_any}
-use Rattle.release_taps.specs.Split.{AsksForTaps, behind_pairs}
-use Rattle.command_line.specs.Performing.{Performs, PerformsIn}
+use Rattle.job_commands.specs.Answers.{AnswersAs}
+use Rattle.job_commands.specs.Meanings.{CommandMeaning}
+use Rattle.job_top.specs.Answers.{Answers}
+use Rattle.job_top.proofs.Answered.{creates_nothing, few_given, honest_before, read_rose, write_failed}
+use Rattle.job_top.proofs.Lives.{mean_any}
+use Rattle.release_taps.specs.Split.{behind_pairs}
+use Rattle.command_line.specs.Performing.{PerformsIn}
 use Rattle.command_line.specs.Running.{AsksNoRounds, AsksToPerform, IsNotBegun, Runs}
 use Rattle.command_line.proofs.NoCommand.{prints_nothing}
 use Rattle.command_line.proofs.Runs.{text_no_taps}
@@ -70,77 +72,48 @@ module _ {W : Type 0} (honest : Start → W → Type 0) (shows : Start → W →
   pub raced : asked_text words ≡ None → Answers honest shows ledger healthy may words status old new
       → PerformsIn honest shows ledger healthy may words status old new
   raced is answers = record {
-    bytes = λ p h. record {
-      prints = prints_nothing words status (shows p old) (shows p new) is;
-      answers = answers.bytes p h;
-    };
+    prints = λ p h. prints_nothing words status (shows p old) (shows p new) is;
+    answers = answers.answers;
     bad_words = λ bad. (answers.bad_words.0 bad, is);
     nothing_asked = answers.nothing_asked;
-    creates_nothing = answers.creates_nothing;
-    never_fails = answers.never_fails;
-    read_fault = answers.read_fault;
-    write_fault = answers.write_fault;
-    opens_in_order = answers.opens_in_order;
-    opens_all = answers.opens_all;
+    creates_nothing = creates_nothing honest shows ledger healthy may words status old new answers;
+    never_fails = λ ok fault. (write_failed honest shows ledger healthy may words status old new answers fault).not_healthy ok;
+    read_fault = read_rose honest shows ledger healthy may words status old new answers;
+    write_fault = λ fault. (write_failed honest shows ledger healthy may words status old new answers fault).rose;
     opens_nothing = λ none. ap (λ (w : W). (ledger w).opened_names) (answers.nothing_asked (answers.bad_words.1 none));
-    given = answers.given;
-    before = answers.before;
+    given = few_given honest shows ledger healthy may words status old new answers;
+    before = honest_before honest shows ledger healthy may words status old new answers;
   }
 
 -- Whatever a clock may answer
 
-any_bytes : (healthy : Type 0) (may : ℕ → Type 0) (words : List (List ℕ)) (status : Status) (old new : Shown)
-    → live_names words ≡ None → AnswersBytes healthy (λ t. ⊥) words status old new
-    → AnswersBytes healthy may words status old new
-any_bytes healthy may words status old new none said = record {
-  done = λ done. leaves_any may words old new none (said.done done);
-  headline = said.headline;
-  limit = said.limit;
-  unready = said.unready;
-  in_order = said.in_order;
-  refused = said.refused;
-  others = said.others;
-  judged = said.judged;
-  completes = said.completes;
-}
-
 module _ {W X : Type 0} (honest : Start → W → Type 0) (shows : Start → W → Shown) (ledger : W → Ledger)
     (healthy : W → Type 0) (may : ℕ → Type 0) (faults : X → ℕ) (refused : Option X) (words : List (List ℕ))
     (status : Status) (old new : W) (printed : Ledger) where
+  abbrev Means : CommandMeaning → Type 0
+  Means command = AnswersAs honest shows ledger healthy command status old new
+
   any_answers : (some : List (List ℕ)) → live_names some ≡ None
       → Answers honest shows ledger healthy (λ t. ⊥) some status old new
       → Answers honest shows ledger healthy may some status old new
   any_answers some none said = record {
     bad_words = said.bad_words;
     nothing_asked = said.nothing_asked;
-    bytes = λ p h. any_bytes (healthy old) may some status (shows p old) (shows p new) none (said.bytes p h);
-    creates_nothing = said.creates_nothing;
-    never_fails = said.never_fails;
-    read_fault = said.read_fault;
-    write_fault = said.write_fault;
-    opens_in_order = said.opens_in_order;
-    opens_all = said.opens_all;
-    orderly = said.orderly;
-    given = said.given;
-    before = said.before;
+    answers = mean_any Means may some none said.answers;
   }
 
   any_performed : live_names words ≡ None
       → PerformsIn honest shows ledger healthy (λ t. ⊥) words status old new
       → PerformsIn honest shows ledger healthy may words status old new
   any_performed none said = record {
-    bytes = λ p h. record {
-      prints = (said.bytes p h).prints;
-      answers = any_bytes (healthy old) may words status (shows p old) (shows p new) none (said.bytes p h).answers;
-    };
+    prints = said.prints;
+    answers = mean_any Means may words none said.answers;
     bad_words = said.bad_words;
     nothing_asked = said.nothing_asked;
     creates_nothing = said.creates_nothing;
     never_fails = said.never_fails;
     read_fault = said.read_fault;
     write_fault = said.write_fault;
-    opens_in_order = said.opens_in_order;
-    opens_all = said.opens_all;
     opens_nothing = said.opens_nothing;
     given = said.given;
     before = said.before;

@@ -8,6 +8,7 @@ use Rattle.world_io.specs.World.{Start, Shown, Ledger}
 use Rattle.job_commands.specs.declared.status.Status.{Status}
 use Rattle.job_commands.specs.declared.status.Status.TheVariants.{BadWords, ReadFault, WriteFault, NoMemory}
 use Rattle.job_top.specs.Answers.{Answers}
+use Rattle.job_top.proofs.Answered.{honest_before, read_rose, write_failed}
 use Rattle.release_taps.specs.Split.{AsksForTaps, BeginsWithTap, IsRunLine, behind_pairs}
 use Rattle.release_taps.proofs.Counting.{one_count}
 use Rattle.command_line.specs.Performing.{PerformsIn, WatchesIn}
@@ -172,7 +173,8 @@ module _ {W X : Type 0} (honest : Start → W → Type 0) (shows : Start → W �
 
           earlier : Tapped pairs → (p : Start) → honest p new → honest p old
           earlier (inl not) p h = subst (λ (w : W). honest p w) not.same h
-          earlier (inr all) p h = all.before p h
+          earlier (inr all) p h =
+              honest_before honest shows ledger healthy may (behind_pairs pairs words) status old new all p h
 
       pub tapped-read_fault : Tapped pairs → status ≡ ReadFault → 0 < (ledger new).read_faults
       tapped-read_fault (inl not) fault = absurd (go not.cause)
@@ -180,7 +182,8 @@ module _ {W X : Type 0} (honest : Start → W → Type 0) (shows : Start → W �
           go : (status ≡ NoMemory) ⊎ ((status ≡ WriteFault) × HasRefused faults refused) → ⊥
           go (inl memory) = let never : NoMemory ≡ ReadFault = sym memory ∙ fault in cc
           go (inr write) = let never : WriteFault ≡ ReadFault = sym write.0 ∙ fault in cc
-      tapped-read_fault (inr all) fault = rose_some _ _ (all.read_fault fault)
+      tapped-read_fault (inr all) fault =
+          rose_some _ _ (read_rose honest shows ledger healthy may (behind_pairs pairs words) status old new all fault)
 
       pub tapped-write_fault : Tapped pairs → status ≡ WriteFault
           → (0 < (ledger new).write_faults) ⊎ ((0 < printed.write_faults) ⊎ HasRefused faults refused)
@@ -190,4 +193,6 @@ module _ {W X : Type 0} (honest : Start → W → Type 0) (shows : Start → W �
               → (0 < (ledger new).write_faults) ⊎ ((0 < printed.write_faults) ⊎ HasRefused faults refused)
           go (inl memory) = absurd (let never : NoMemory ≡ WriteFault = sym memory ∙ fault in cc)
           go (inr write) = inr (inr write.1)
-      tapped-write_fault (inr all) fault = inl (rose_some _ _ (all.write_fault fault))
+      tapped-write_fault (inr all) fault =
+          inl (rose_some _ _
+          (write_failed honest shows ledger healthy may (behind_pairs pairs words) status old new all fault).rose)

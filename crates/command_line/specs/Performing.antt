@@ -2,36 +2,39 @@
 -- clock may answer these times.
 use Rattle.std.specs.Prelude.{◌≡◌, ◌<◌, ◌≤◌, ◌+◌, ℕ, List, IfSome, None}
 use Rattle.world_io.specs.Stream.{Rose}
-use Rattle.world_io.specs.World.{Start, Shown, Ledger, WritingFailed}
-use Rattle.input_files.specs.Files.{OpensAll, OpensFirst}
+use Rattle.world_io.specs.World.{Start, Shown, Ledger}
 use Rattle.packet_taps.specs.Watching.{KeepsFiles, ReadsOneName}
 use Rattle.packet_taps.specs.Words.{watch_names}
 use Rattle.job_commands.specs.declared.status.Status.{Status}
-use Rattle.job_commands.specs.declared.status.Status.TheVariants.{Done, BadWords, ReadFault, WriteFault}
+use Rattle.job_commands.specs.declared.status.Status.TheVariants.{BadWords, ReadFault, WriteFault}
+use Rattle.job_commands.specs.Answers.{AnswersAs}
 use Rattle.job_commands.specs.Status.{IsRefusal}
-use Rattle.job_commands.specs.Words.{IfAsks, asked, inputs_of}
-use Rattle.job_top.specs.Answers.{AnswersBytes}
+use Rattle.job_commands.specs.Words.{IfAsks, asked}
+use Rattle.job_top.specs.Answers.{AnswersBytesOf}
+use Rattle.job_top.specs.Commands.{meaning_of}
 use Rattle.command_words.specs.Printing.{asked_text, Prints}
 use Rattle.command_words.specs.Watching.{Watches}
 
--- the help or the version was printed, or the command did all that the top call promises
+-- the help or the version was printed, or the command answered as it means it
 pub record Performs (healthy : Type 0) (may : ℕ → Type 0) (words : List (List ℕ)) (status : Status)
     (old new : Shown) : Type 0 where
   pub prints : IfSome (asked_text words) (λ text. Prints text status old new)
-  pub answers : AnswersBytes healthy may words status old new
+  pub answers : AnswersBytesOf healthy may words status old new
 
 -- Each clause of `perform`, for a world of which these are the four views.
 pub record PerformsIn {W : Type 0} (honest : Start → W → Type 0) (shows : Start → W → Shown) (ledger : W → Ledger)
     (healthy : W → Type 0) (may : ℕ → Type 0) (words : List (List ℕ)) (status : Status) (old new : W) : Type 0 where
-  pub bytes : (p : Start) → honest p new → Performs (healthy old) may words status (shows p old) (shows p new)
+  pub prints : (p : Start) → honest p new
+      → IfSome (asked_text words) (λ text. Prints text status (shows p old) (shows p new))
+  pub answers : IfAsks words (λ command.
+      AnswersAs honest shows ledger healthy (meaning_of may command) status old new)
   pub bad_words : status ≡ BadWords → (asked words ≡ None) × (asked_text words ≡ None)
   pub nothing_asked : status ≡ BadWords → new ≡ old
+  -- what is so of a text that is printed, too
   pub creates_nothing : IsRefusal status → (ledger new).created ≡ (ledger old).created
   pub never_fails : healthy old → ¬ (status ≡ WriteFault)
   pub read_fault : status ≡ ReadFault → Rose (ledger old).read_faults (ledger new).read_faults
   pub write_fault : status ≡ WriteFault → Rose (ledger old).write_faults (ledger new).write_faults
-  pub opens_in_order : IfAsks words (λ command. OpensFirst (inputs_of command) (ledger old) (ledger new))
-  pub opens_all : status ≡ Done → IfAsks words (λ command. OpensAll (inputs_of command) (ledger old) (ledger new))
   pub opens_nothing : asked words ≡ None → (ledger new).opened_names ≡ (ledger old).opened_names
   pub given : (ledger new).given ≤ (ledger old).given + 8
   pub before : (p : Start) → honest p new → honest p old

@@ -8,7 +8,7 @@ use Rattle.job_commands.specs.declared.status.Status.{Status}
 use Rattle.job_commands.specs.declared.status.Status.TheVariants.{Done, BadWords, WriteFault, NoMemory}
 use Rattle.job_commands.specs.Status.{exit_code_of}
 use Rattle.job_commands.specs.Words.{asked, live_names}
-use Rattle.job_top.specs.Answers.{Answers, AnswersBytes}
+use Rattle.job_top.specs.Answers.{Answers, AnswersBytesOf}
 use Rattle.release_taps.specs.Split.{AsksForTaps, BeginsWithTap, behind_pairs, released_name}
 use Rattle.release_taps.specs.declared.seat.Seat.{Seat}
 use Rattle.release_taps.specs.Mirrored.{IsMirroring}
@@ -135,7 +135,7 @@ pub record RunsFiles {X : Type 0} (may : ℕ → Type 0) (faults : X → ℕ) (r
       → Watches ⊥ words status (shown_after p [])
   pub taps : (pairs : ℕ) → AsksForTaps words pairs → IsNotBegun faults refused status [] calls
       ⊎ ((p : Start) → IsHonest p calls
-      → AnswersBytes ⊥ may (behind_pairs pairs words) status (shown_after p []) (shown_after p calls))
+      → AnswersBytesOf ⊥ may (behind_pairs pairs words) status (shown_after p []) (shown_after p calls))
 
 -- What is printed of a watched capture: its lines, where the answers of the file are honest; and nothing on the report
 -- that is there for them where none is to be watched.

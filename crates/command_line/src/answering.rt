@@ -1,9 +1,9 @@
 ghost use Rattle.std.specs.Prelude.{◌≡◌, ◌<◌, ◌≤◌, ◌+◌, ◌^◌, ◌⊎◌, None, IfSome};
 ghost use Rattle.world_io.specs.Stream.{Rose};
-ghost use Rattle.input_files.specs.Files.{OpensAll, OpensFirst};
+ghost use Rattle.job_commands.specs.Answers.{AnswersAs};
 ghost use Rattle.job_commands.specs.Status.{IsRefusal};
-ghost use Rattle.job_commands.specs.Words.{asked, IfAsks, inputs_of, live_names};
-ghost use Rattle.command_line.specs.Performing.{Performs};
+ghost use Rattle.job_commands.specs.Words.{asked, IfAsks, live_names};
+ghost use Rattle.job_top.specs.Commands.{meaning_of};
 ghost use Rattle.command_words.specs.Printing.{Prints, asked_text};
 ghost use Rattle.world_io.specs.World.{Start, KeepsOrder, WritingFailed};
 
@@ -41,8 +41,10 @@ fn print<W: World>(world: &mut W, text: &str) -> Status
 pub fn perform<W: World>(alloc: Global, words: &[Text], world: &mut W) -> Status
     requires room { (W.ledger world.old).given < 2 ^ 31 }
     requires no_rounds { live_names words.now ≡ None }
-    ensures performs { (p : Start) → W.honest p world.new → Performs (W.healthy world.old)
-        (λ t. ⊥) words.now result (W.shows p world.old) (W.shows p world.new) }
+    ensures prints { (p : Start) → W.honest p world.new → IfSome (asked_text words.now)
+        (λ text. Prints text result (W.shows p world.old) (W.shows p world.new)) }
+    ensures answers { IfAsks words.now (λ command. AnswersAs W.honest W.shows W.ledger W.healthy
+        (meaning_of (λ t. ⊥) command) result world.old world.new) }
     ensures printed { IfSome (asked_text words.now) (λ text. (result ≡ Status.Done)
         ⊎ ((result ≡ Status.WriteFault) ⊎ (result ≡ Status.NoMemory))) }
     ensures bad_words { result ≡ Status.BadWords
@@ -52,10 +54,6 @@ pub fn perform<W: World>(alloc: Global, words: &[Text], world: &mut W) -> Status
     ensures nothing_asked { result ≡ Status.BadWords → world.new ≡ world.old }
     ensures creates_nothing { IsRefusal result
         → (W.ledger world.new).created ≡ (W.ledger world.old).created }
-    ensures opens_in_order { IfAsks words.now (λ command.
-        OpensFirst (inputs_of command) (W.ledger world.old) (W.ledger world.new)) }
-    ensures opens_all { result ≡ Status.Done → IfAsks words.now (λ command.
-        OpensAll (inputs_of command) (W.ledger world.old) (W.ledger world.new)) }
     ensures opens_nothing { asked words.now ≡ None
         → (W.ledger world.new).opened_names ≡ (W.ledger world.old).opened_names }
     ensures orderly { KeepsOrder (W.ledger world.old) (W.ledger world.new) }

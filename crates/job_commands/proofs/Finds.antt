@@ -1,14 +1,15 @@
 -- What the command `check` comes to, from what is checked.
 use Rattle.std.proofs.Common.{◌≡◌, ℕ, List, length, refl, sym, ap, ◌∙◌, subst, ◌⊎◌, inl, inr, Result, Ok, Err}
+use Rattle.std.proofs.Common.{arith, rules}
 use Rattle.std.specs.Prelude.{⊤, IsErrOf, OnOk}
-use Rattle.plain_text.specs.declared.limit.Limit.{Limit}
 use Rattle.plain_text.specs.declared.packet.Packet.{Packet}
 use Rattle.plain_text.specs.declared.packet.Unit.{Unit as FractionUnit}
 use Rattle.plain_machine.specs.declared.plain_move.PlayFault.{PlayFault}
 use Rattle.plain_machine.specs.History.{Step, emissions}
 use Rattle.schedule_check.proofs.FirstOnes.{none_unmatched, one_first}
-use Rattle.world_io.specs.World.{Shown}
+use Rattle.world_io.specs.World.{Ledger, Shown, WritingFailed}
 use Rattle.output_files.specs.Writes.{HasWritten, HasBegun}
+use Rattle.output_files.specs.Written.{OnlyWrites, WritesFiles}
 use Rattle.schedule_check.specs.declared.checking.Checked.TheVariants.{Found, Refuted}
 use Rattle.schedule_check.specs.declared.checking.Refutation.{Refutation}
 use Rattle.schedule_check.specs.declared.checking.Refutation.TheVariants as refuted
@@ -16,18 +17,21 @@ use Rattle.schedule_check.specs.Checking.{IsChecked}
 use Rattle.schedule_commands.specs.declared.error.ScheduleError.{ScheduleError}
 use Rattle.schedule_commands.specs.declared.error.ScheduleError.TheVariants as error
 use Rattle.schedule_commands.specs.Checking.{SaysCheck, found_writes}
-use Rattle.run_writes.specs.Run.{KeepsShown}
-use Rattle.input_files.specs.Files.{KeepsOutputs}
+use Rattle.input_files.specs.Files.{KeepsOutputs, OnlyReads, OpensAll}
 use Rattle.job_commands.specs.declared.schedule_inputs.CheckInputs.{CheckInputs}
 use Rattle.job_commands.specs.declared.status.Status.{Status}
 use Rattle.job_commands.specs.declared.status.Status.TheVariants as status
+use Rattle.job_commands.specs.Answers.{Counts, SaysOf}
 use Rattle.job_commands.specs.Judging.{IsDecided}
-use Rattle.job_commands.specs.Schedules.{AcceptsCheckInputs, AreFound, EndsCheck, JudgesCheck, FindsAll, FindsInOrder}
-use Rattle.job_commands.specs.Schedules.{outcome_for}
-use Rattle.job_commands.specs.Status.{AtInputs, Completes, check_outcome, stage_of}
-use Rattle.job_commands.specs.Words.{CheckNames}
-use Rattle.job_commands.proofs.Outcomes.{written_since, begun_writes_since, kept_shown}
+use Rattle.job_commands.specs.Schedules.{AcceptsCheckInputs, AreFound, EndsCheck, JudgesCheck, FindsInOrder}
+use Rattle.job_commands.specs.Schedules.{check_meaning, outcome_for}
+use Rattle.job_commands.specs.Status.{Completes, check_outcome}
+use Rattle.job_commands.specs.Words.{CheckNames, check_inputs}
+use Rattle.job_commands.proofs.Failing.{failed_since}
 use Rattle.job_commands.proofs.FilesInTurn.{four_accepted, four_one, four_pass}
+use Rattle.job_commands.proofs.Others.{check_others}
+use Rattle.job_commands.proofs.Outcomes.{written_since, begun_writes_since, kept_shown}
+use Rattle.job_commands.proofs.Usual.{Ends, IsUsual}
 
 abbrev Answer : Type 0
 Answer = Result ⊤ (ScheduleError Refutation)
@@ -41,55 +45,64 @@ Says inputs r =
 
 module _ (healthy : Type 0) (names : CheckNames) (inputs : CheckInputs) (a b c : Shown) (keeps : KeepsOutputs a b)
     (accepts : AcceptsCheckInputs names inputs a) where
-  pub check_judged : (r : Answer) → Says inputs r → (healthy → ¬ IsErrOf r error.WriteFault)
+  check_judged : (r : Answer) → Says inputs r → (healthy → ¬ IsErrOf r error.WriteFault)
       → JudgesCheck healthy names (check_outcome r) a
   check_judged r says never =
       four_accepted healthy names a (EndsCheck healthy) inputs (check_outcome r) accepts (r, says, never, refl)
 
-  pub check_done : (r : Answer) → check_outcome r ≡ status.Done → Says inputs r
-      → OnOk r (HasWritten (found_writes (length inputs.released.packets)) b c) → FindsAll names a c
-  check_done (Ok done) e says written =
-      (inputs, accepts, says, written_since a b c keeps (found_writes (length inputs.released.packets)) written)
-  check_done (Err (error.Refused refutation)) e says written = absurd (cc)
-  check_done (Err error.WriteFault) e says written = absurd (cc)
-  check_done (Err error.NoMemory) e says written = absurd (cc)
+  check_says : (r : Answer) → Says inputs r
+      → OnOk r (HasWritten (found_writes (length inputs.released.packets)) b c)
+      → ((refutation : Refutation) → r ≡ Err (error.Refused refutation) → b ≡ c)
+      → SaysOf (check_meaning names) (check_outcome r) a c
+  check_says (Ok done) says written same =
+      ((inputs, accepts, says, written_since a b c keeps (found_writes (length inputs.released.packets)) written), tt)
+  check_says (Err (error.Refused refutation)) says written same = kept_shown a b c keeps (same refutation refl)
+  check_says (Err error.WriteFault) says written same = tt
+  check_says (Err error.NoMemory) says written same = tt
 
-  pub check_in_order : (b ≡ c) ⊎ (AreFound inputs × HasBegun (found_writes (length inputs.released.packets)) b c)
+  check_in_order : (b ≡ c) ⊎ (AreFound inputs × HasBegun (found_writes (length inputs.released.packets)) b c)
       → FindsInOrder names a c
   check_in_order (inl same) = inl (kept_shown a b c keeps same)
   check_in_order (inr (found, begun)) =
       inr (inputs, accepts, found, begun_writes_since a b c keeps (found_writes (length inputs.released.packets)) begun)
 
-  pub check_refused : (r : Answer) → stage_of (check_outcome r) ≡ AtInputs
-      → ((refutation : Refutation) → r ≡ Err (error.Refused refutation) → b ≡ c) → KeepsShown a c
-  check_refused (Ok done) e same = absurd (cc)
-  check_refused (Err (error.Refused refutation)) e same = kept_shown a b c keeps (same refutation refl)
-  check_refused (Err error.WriteFault) e same = absurd (cc)
-  check_refused (Err error.NoMemory) e same = absurd (cc)
+  pub check_ends : (r : Answer) → Says inputs r → (healthy → ¬ IsErrOf r error.WriteFault)
+      → OnOk r (HasWritten (found_writes (length inputs.released.packets)) b c)
+      → (b ≡ c) ⊎ (AreFound inputs × HasBegun (found_writes (length inputs.released.packets)) b c)
+      → ((refutation : Refutation) → r ≡ Err (error.Refused refutation) → b ≡ c)
+      → Ends (check_meaning names) healthy (check_outcome r) a c
+  check_ends r says never written begun same = record {
+    says = check_says r says written same;
+    in_order = check_in_order begun;
+    judged = check_judged r says never;
+  }
 
-pub check_limit : (r : Answer) (limit : Limit) → check_outcome r ≡ status.TooLarge limit → ⊥
-check_limit (Ok done) limit e = cc
-check_limit (Err (error.Refused refutation)) limit e = cc
-check_limit (Err error.WriteFault) limit e = cc
-check_limit (Err error.NoMemory) limit e = cc
+-- What it comes to, of the ledger: it only writes.
+pub no_files : {W : Type 0} (ledger : W → Ledger) (healthy : W → Type 0) (a b : W) → OnlyWrites ledger healthy a b
+    → WritesFiles ledger healthy 0 a b
+no_files ledger healthy a b writes = record {
+  ledger = record {
+    given = omega (arith, writes.ledger.given);
+    opened = writes.ledger.opened;
+    opened_names = writes.ledger.opened_names;
+    orderly = writes.ledger.orderly;
+    read_faults = writes.ledger.read_faults;
+    write_faults = writes.ledger.write_faults;
+  };
+  stays_healthy = writes.stays_healthy;
+}
 
-pub check_words : (r : Answer) → check_outcome r ≡ status.BadWords → ⊥
-check_words (Ok done) e = cc
-check_words (Err (error.Refused refutation)) e = cc
-check_words (Err error.WriteFault) e = cc
-check_words (Err error.NoMemory) e = cc
-
-pub check_reads : (r : Answer) → check_outcome r ≡ status.ReadFault → ⊥
-check_reads (Ok done) e = cc
-check_reads (Err (error.Refused refutation)) e = cc
-check_reads (Err error.WriteFault) e = cc
-check_reads (Err error.NoMemory) e = cc
-
-pub check_fault : (r : Answer) → check_outcome r ≡ status.WriteFault → IsErrOf r error.WriteFault
-check_fault (Ok done) e = absurd (cc)
-check_fault (Err (error.Refused refutation)) e = absurd (cc)
-check_fault (Err error.WriteFault) e = refl
-check_fault (Err error.NoMemory) e = absurd (cc)
+pub check_counts : {W : Type 0} (ledger : W → Ledger) (healthy : W → Type 0) (names : CheckNames) (a b c : W)
+    (r : Answer) → OnlyReads ledger healthy (check_inputs names) a b
+    → OpensAll (check_inputs names) (ledger a) (ledger b) → OnlyWrites ledger healthy b c
+    → (IsErrOf r error.WriteFault → WritingFailed ledger healthy b c)
+    → Counts ledger healthy (check_meaning names) (check_outcome r) a c
+check_counts ledger healthy names a b c (Ok done) reads opened writes cause = writes.ledger.opened_names ∙ opened
+check_counts ledger healthy names a b c (Err (error.Refused refutation)) reads opened writes cause =
+    writes.ledger.created ∙ reads.ledger.created
+check_counts ledger healthy names a b c (Err error.WriteFault) reads opened writes cause =
+    failed_since ledger healthy (check_inputs names) a b c reads (cause refl)
+check_counts ledger healthy names a b c (Err error.NoMemory) reads opened writes cause = tt
 
 -- The inputs decide the status.
 
@@ -164,3 +177,11 @@ module _ (healthy : Type 0) where
           → Completes s ⊎ ((refutation : Refutation) × (s ≡ status.Refuted refutation))
       go (inl q) = inl (inr q)
       go (inr (r, says, never, q)) = by r never q
+
+pub check_usual : (names : CheckNames) → IsUsual (check_meaning names)
+check_usual names = record {
+  few = search rules;
+  begins = λ old new same. inl same;
+  others = check_others names;
+  completes = λ healthy shown. check_completes healthy names shown;
+}

@@ -8,10 +8,12 @@ pub mod Savefiles
 pub mod Recorded
 pub mod Turns
 pub mod FilesInTurn
+pub mod Failing
+pub mod Usual
+pub mod Makes
 pub mod Plays
 pub mod Finds
 pub mod RunChecked
-pub mod Failing
 pub mod ThreeFiles
 pub mod LiveFiles
 pub mod ChainFiles

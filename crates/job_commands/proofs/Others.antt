@@ -1,14 +1,10 @@
 -- A command leaves the names as they were that it does not write.
-use Rattle.std.proofs.Common.{◌≡◌, ℕ, List, [], ◌∷◌, ◌++◌, refl, sym, ap, ◌∙◌, subst, inl, inr, Option, Result, Ok, Err}
-use Rattle.std.specs.Prelude.{⊤}
+use Rattle.std.proofs.Common.{◌≡◌, ℕ, List, [], ◌∷◌, ◌++◌, refl, sym, ap, ◌∙◌, subst, inl, inr, Option}
 use Rattle.plain_text.specs.declared.packet.Unit.{Unit as FractionUnit}
 use Rattle.world_io.specs.World.{Shown}
 use Rattle.recovery_world.specs.declared.event.Event.{Event}
 use Rattle.recovery_world.specs.World.{Setting}
-use Rattle.output_files.specs.declared.error.OutputError.{OutputError}
 use Rattle.output_files.specs.Writes.{Write, Creates, Appends, Reports, after_writes, IsPartOf, IsCut, HasBegun}
-use Rattle.output_files.specs.Written.{Writes}
-use Rattle.output_files.proofs.Effects.{begun_all}
 use Rattle.run_writes.specs.Replies.{Reply}
 use Rattle.run_writes.specs.Run.{OutputNames, KeepsOthers, IsWritten, writes_of, replies_writes}
 use Rattle.run_writes.proofs.RunWrites.{other_name}
@@ -81,11 +77,9 @@ run_others names a b (inr (inputs, asked, (writes, is, begun))) name one two =
     begun_spares name writes a b begun
     (run_spares name (outputs_of names) one two (setting_for inputs) inputs.events writes is)
 
-pub made_others : (names : MakeNames) (r : Result ⊤ OutputError) (a b : Shown) → Writes r (made_writes names) a b
-    → (name : List ℕ) → ¬ (name ≡ names.capture) → b.names name ≡ a.names name
-made_others names (Ok done) a b written name one =
-    begun_spares name (made_writes names) a b (begun_all (made_writes names) a b written) (one, (one, (one, (tt, tt))))
-made_others names (Err error) a b begun name one =
+pub made_others : (names : MakeNames) (a b : Shown) → HasBegun (made_writes names) a b → (name : List ℕ)
+    → ¬ (name ≡ names.capture) → b.names name ≡ a.names name
+made_others names a b begun name one =
     begun_spares name (made_writes names) a b begun (one, (one, (one, (tt, tt))))
 
 pub play_others : (names : PlayNames) (a b : Shown) → PlaysInOrder names a b → (name : List ℕ) → ¬ (name ≡ names.out)

@@ -18,11 +18,10 @@ use Rattle.job_commands.specs.declared.inputs.Inputs.{Inputs}
 use Rattle.job_commands.specs.declared.status.Status.{Status}
 use Rattle.job_commands.specs.declared.status.Status.TheVariants as status
 use Rattle.job_commands.specs.Judging.{Judges}
-use Rattle.job_commands.specs.Run.{AcceptsInputs, RunsWhole, RunsToLimit, outputs_of, setting_for}
-use Rattle.job_commands.specs.Status.{AtInputs, AtOutputs, ComesAt, Completes, stage_of, stage_of_limit, outcome_of}
+use Rattle.job_commands.specs.Run.{AcceptsInputs, outputs_of, setting_for}
+use Rattle.job_commands.specs.Status.{AtInputs, AtOutputs, ComesAt, Completes, stage_of_limit, outcome_of}
 use Rattle.job_commands.specs.Status.{run_outcome, IsRefusal}
 use Rattle.job_commands.specs.Words.{RunNames}
-use Rattle.job_commands.proofs.RunLimits.{stops_are}
 
 -- what was read leaves names and the report as they were
 module _ (a b c : Shown) (keeps : KeepsOutputs a b) where
@@ -103,40 +102,6 @@ module _ (healthy : Type 0) (names : RunNames) (inputs : Inputs) (a c : Shown)
   run_judged (Err run_error.WriteFault) never whole limit = (λ ok. never ok refl, inputs, accepted)
   run_judged (Err run_error.NoMemory) never whole limit = tt
 
-  pub run_done : (r : Result ⊤ RunError) → run_outcome r ≡ status.Done
-      → OnOk r (HasRun (setting_for inputs) (outputs_of names) inputs.events a c) → RunsWhole names a c
-  run_done (Ok done) e whole = (inputs, accepted, whole)
-  run_done (Err (run_error.Limit l)) e whole = absurd (cc)
-  run_done (Err run_error.WriteFault) e whole = absurd (cc)
-  run_done (Err run_error.NoMemory) e whole = absurd (cc)
-
-  pub run_limit : (r : Result ⊤ RunError) (l : Limit) → run_outcome r ≡ status.TooLarge l
-      → ((limit : Limit) → r ≡ Err (run_error.Limit limit)
-      → HasStopped (setting_for inputs) (outputs_of names) inputs.events limit a c) → RunsToLimit names l a c
-  run_limit (Ok done) l e limit = absurd (cc)
-  run_limit (Err (run_error.Limit k)) l e limit =
-      let same : k ≡ l = cc in (
-        inputs,
-        accepted,
-        subst (λ (m : Limit). HasStopped (setting_for inputs) (outputs_of names) inputs.events m a c) same
-            (limit k refl),
-      )
-  run_limit (Err run_error.WriteFault) l e limit = absurd (cc)
-  run_limit (Err run_error.NoMemory) l e limit = absurd (cc)
-
-  -- a run never ends at its inputs
-  pub not_at_inputs : (r : Result ⊤ RunError) → stage_of (run_outcome r) ≡ AtInputs
-      → ((limit : Limit) → r ≡ Err (run_error.Limit limit)
-      → HasStopped (setting_for inputs) (outputs_of names) inputs.events limit a c) → ⊥
-  not_at_inputs (Ok done) e limit = cc
-  not_at_inputs (Err (run_error.Limit l)) e limit =
-      let h = limit l refl in
-      let stage : stage_of_limit l ≡ AtOutputs =
-      stops_are (setting_for inputs) h.leaves.there h.leaves.event l h.leaves.world h.leaves.stops in
-      cc
-  not_at_inputs (Err run_error.WriteFault) e limit = cc
-  not_at_inputs (Err run_error.NoMemory) e limit = cc
-
 pub run_words : (r : Result ⊤ RunError) → run_outcome r ≡ status.BadWords → ⊥
 run_words (Ok done) e = cc
 run_words (Err (run_error.Limit l)) e = cc
@@ -175,13 +140,3 @@ pub made_completes : (r : Result ⊤ OutputError) → ¬ IsErrOf r output.WriteF
 made_completes (Ok done) never = inl refl
 made_completes (Err output.WriteFault) never = absurd (never refl)
 made_completes (Err output.NoMemory) never = inr refl
-
-pub made_refuses : (r : Result ⊤ OutputError) → IsRefusal (outcome_of r) → ⊥
-made_refuses (Ok done) e = e
-made_refuses (Err output.WriteFault) e = e
-made_refuses (Err output.NoMemory) e = e
-
-pub made_not_at_inputs : (r : Result ⊤ OutputError) → stage_of (outcome_of r) ≡ AtInputs → ⊥
-made_not_at_inputs (Ok done) e = cc
-made_not_at_inputs (Err output.WriteFault) e = cc
-made_not_at_inputs (Err output.NoMemory) e = cc

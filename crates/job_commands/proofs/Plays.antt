@@ -1,52 +1,60 @@
 -- What the command `play` comes to, from what is played.
-use Rattle.std.proofs.Common.{◌≡◌, List, refl, sym, ap, ◌∙◌, subst, ◌⊎◌, inl, inr, Result, Ok, Err}
+use Rattle.std.proofs.Common.{◌≡◌, List, refl, sym, ap, ◌∙◌, subst, ◌⊎◌, inl, inr, Result, Ok, Err, rules}
 use Rattle.std.specs.Prelude.{⊤, IsErrOf, OnOk}
-use Rattle.plain_text.specs.declared.limit.Limit.{Limit}
 use Rattle.plain_machine.specs.declared.plain_move.PlayFault.{PlayFault}
 use Rattle.plain_machine.specs.History.{Step}
-use Rattle.world_io.specs.World.{Shown}
+use Rattle.world_io.specs.World.{Ledger, Shown, WritingFailed}
 use Rattle.schedule_commands.specs.declared.error.ScheduleError.{ScheduleError}
 use Rattle.schedule_commands.specs.declared.error.ScheduleError.TheVariants as error
 use Rattle.schedule_commands.specs.Playing.{SaysPlay, HasPlayed, HasBegunPlay, emitted_writes}
-use Rattle.run_writes.specs.Run.{KeepsShown}
-use Rattle.input_files.specs.Files.{KeepsOutputs}
+use Rattle.input_files.specs.Files.{KeepsOutputs, OnlyReads, OpensAll}
+use Rattle.output_files.specs.Written.{WritesFiles}
 use Rattle.job_commands.specs.declared.schedule_inputs.ScheduleInputs.{ScheduleInputs}
 use Rattle.job_commands.specs.declared.status.Status.{Status}
 use Rattle.job_commands.specs.declared.status.Status.TheVariants as status
 use Rattle.job_commands.specs.declared.status.InputFault.TheVariants as input
+use Rattle.job_commands.specs.Answers.{Counts, SaysOf}
 use Rattle.job_commands.specs.Judging.{IsDecided}
-use Rattle.job_commands.specs.Schedules.{AcceptsScheduleInputs, EndsPlay, JudgesPlay, PlaysWhole, PlaysInOrder}
-use Rattle.job_commands.specs.Schedules.{outcome_for}
-use Rattle.job_commands.specs.Status.{AtInputs, Completes, IsRefusal, play_outcome, stage_of}
-use Rattle.job_commands.specs.Words.{PlayNames}
-use Rattle.job_commands.proofs.Outcomes.{written_since, begun_writes_since, kept_shown}
+use Rattle.job_commands.specs.Schedules.{AcceptsScheduleInputs, EndsPlay, JudgesPlay, PlaysInOrder}
+use Rattle.job_commands.specs.Schedules.{outcome_for, play_meaning}
+use Rattle.job_commands.specs.Status.{Completes, play_outcome}
+use Rattle.job_commands.specs.Words.{PlayNames, schedule_inputs}
+use Rattle.job_commands.proofs.Failing.{failed_since}
 use Rattle.job_commands.proofs.FilesInTurn.{three_accepted, three_one, three_pass}
+use Rattle.job_commands.proofs.Others.{play_others}
+use Rattle.job_commands.proofs.Outcomes.{written_since, begun_writes_since, kept_shown}
+use Rattle.job_commands.proofs.Usual.{Ends, IsUsual}
 
 -- The status, where the inputs are accepted.
 
 module _ (healthy : Type 0) (names : PlayNames) (inputs : ScheduleInputs) (a b c : Shown) (keeps : KeepsOutputs a b)
     (accepts : AcceptsScheduleInputs names.files inputs a) where
-  pub play_judged : (r : Result ⊤ (ScheduleError PlayFault)) → SaysPlay (outcome_for inputs) r
+  play_judged : (r : Result ⊤ (ScheduleError PlayFault)) → SaysPlay (outcome_for inputs) r
       → (healthy → ¬ IsErrOf r error.WriteFault) → JudgesPlay healthy names (play_outcome r) a
   play_judged r says never =
       three_accepted healthy names.files a (EndsPlay healthy) inputs (play_outcome r) accepts (r, says, never, refl)
 
-  pub play_done : (r : Result ⊤ (ScheduleError PlayFault)) → play_outcome r ≡ status.Done
-      → OnOk r (HasPlayed (outcome_for inputs) names.out inputs.capture.unit b c) → PlaysWhole names a c
-  play_done (Ok done) e played = (
-    inputs,
-    accepts,
-    record {
-      steps = played.steps;
-      legal = played.legal;
-      written = written_since a b c keeps (emitted_writes names.out inputs.capture.unit played.steps) played.written;
-    },
+  play_says : (r : Result ⊤ (ScheduleError PlayFault))
+      → OnOk r (HasPlayed (outcome_for inputs) names.out inputs.capture.unit b c)
+      → ((fault : PlayFault) → r ≡ Err (error.Refused fault) → b ≡ c)
+      → SaysOf (play_meaning names) (play_outcome r) a c
+  play_says (Ok done) played same = (
+    (
+      inputs,
+      accepts,
+      record {
+        steps = played.steps;
+        legal = played.legal;
+        written = written_since a b c keeps (emitted_writes names.out inputs.capture.unit played.steps) played.written;
+      },
+    ),
+    tt,
   )
-  play_done (Err (error.Refused fault)) e played = absurd (cc)
-  play_done (Err error.WriteFault) e played = absurd (cc)
-  play_done (Err error.NoMemory) e played = absurd (cc)
+  play_says (Err (error.Refused fault)) played same = kept_shown a b c keeps (same fault refl)
+  play_says (Err error.WriteFault) played same = tt
+  play_says (Err error.NoMemory) played same = tt
 
-  pub play_in_order : (b ≡ c) ⊎ HasBegunPlay (outcome_for inputs) names.out inputs.capture.unit b c
+  play_in_order : (b ≡ c) ⊎ HasBegunPlay (outcome_for inputs) names.out inputs.capture.unit b c
       → PlaysInOrder names a c
   play_in_order (inl same) = inl (kept_shown a b c keeps same)
   play_in_order (inr begun) =
@@ -60,44 +68,32 @@ module _ (healthy : Type 0) (names : PlayNames) (inputs : ScheduleInputs) (a b c
         },
       )
 
-  pub play_refused : (r : Result ⊤ (ScheduleError PlayFault)) → stage_of (play_outcome r) ≡ AtInputs
-      → ((fault : PlayFault) → r ≡ Err (error.Refused fault) → b ≡ c) → KeepsShown a c
-  play_refused (Ok done) e same = absurd (cc)
-  play_refused (Err (error.Refused fault)) e same = kept_shown a b c keeps (same fault refl)
-  play_refused (Err error.WriteFault) e same = absurd (cc)
-  play_refused (Err error.NoMemory) e same = absurd (cc)
+  pub play_ends : (r : Result ⊤ (ScheduleError PlayFault)) → SaysPlay (outcome_for inputs) r
+      → (healthy → ¬ IsErrOf r error.WriteFault)
+      → OnOk r (HasPlayed (outcome_for inputs) names.out inputs.capture.unit b c)
+      → (b ≡ c) ⊎ HasBegunPlay (outcome_for inputs) names.out inputs.capture.unit b c
+      → ((fault : PlayFault) → r ≡ Err (error.Refused fault) → b ≡ c)
+      → Ends (play_meaning names) healthy (play_outcome r) a c
+  play_ends r says never played begun same = record {
+    says = play_says r played same;
+    in_order = play_in_order begun;
+    judged = play_judged r says never;
+  }
 
-pub play_limit : (r : Result ⊤ (ScheduleError PlayFault)) (limit : Limit) → play_outcome r ≡ status.TooLarge limit → ⊥
-play_limit (Ok done) limit e = cc
-play_limit (Err (error.Refused fault)) limit e = cc
-play_limit (Err error.WriteFault) limit e = cc
-play_limit (Err error.NoMemory) limit e = cc
-
-pub play_words : (r : Result ⊤ (ScheduleError PlayFault)) → play_outcome r ≡ status.BadWords → ⊥
-play_words (Ok done) e = cc
-play_words (Err (error.Refused fault)) e = cc
-play_words (Err error.WriteFault) e = cc
-play_words (Err error.NoMemory) e = cc
-
-pub play_reads : (r : Result ⊤ (ScheduleError PlayFault)) → play_outcome r ≡ status.ReadFault → ⊥
-play_reads (Ok done) e = cc
-play_reads (Err (error.Refused fault)) e = cc
-play_reads (Err error.WriteFault) e = cc
-play_reads (Err error.NoMemory) e = cc
-
-pub play_fault : (r : Result ⊤ (ScheduleError PlayFault)) → play_outcome r ≡ status.WriteFault
-    → IsErrOf r error.WriteFault
-play_fault (Ok done) e = absurd (cc)
-play_fault (Err (error.Refused fault)) e = absurd (cc)
-play_fault (Err error.WriteFault) e = refl
-play_fault (Err error.NoMemory) e = absurd (cc)
-
-pub play_refuses : (r : Result ⊤ (ScheduleError PlayFault)) → IsRefusal (play_outcome r)
-    → (fault : PlayFault) × (r ≡ Err (error.Refused fault))
-play_refuses (Ok done) e = absurd e
-play_refuses (Err (error.Refused fault)) e = (fault, refl)
-play_refuses (Err error.WriteFault) e = absurd e
-play_refuses (Err error.NoMemory) e = absurd e
+-- What it comes to, of the ledger.
+pub play_counts : {W : Type 0} (ledger : W → Ledger) (healthy : W → Type 0) (names : PlayNames) (a b c : W)
+    (r : Result ⊤ (ScheduleError PlayFault)) → OnlyReads ledger healthy (schedule_inputs names.files) a b
+    → OpensAll (schedule_inputs names.files) (ledger a) (ledger b) → WritesFiles ledger healthy 1 b c
+    → ((fault : PlayFault) → r ≡ Err (error.Refused fault) → c ≡ b)
+    → (IsErrOf r error.WriteFault → WritingFailed ledger healthy b c)
+    → Counts ledger healthy (play_meaning names) (play_outcome r) a c
+play_counts ledger healthy names a b c (Ok done) reads opened writes same cause =
+    writes.ledger.opened_names ∙ opened
+play_counts ledger healthy names a b c (Err (error.Refused fault)) reads opened writes same cause =
+    ap (λ z. (ledger z).created) (same fault refl) ∙ reads.ledger.created
+play_counts ledger healthy names a b c (Err error.WriteFault) reads opened writes same cause =
+    failed_since ledger healthy (schedule_inputs names.files) a b c reads (cause refl)
+play_counts ledger healthy names a b c (Err error.NoMemory) reads opened writes same cause = tt
 
 -- The inputs decide the status.
 
@@ -157,3 +153,11 @@ module _ (healthy : Type 0) where
           → Completes s ⊎ ((fault : PlayFault) × (s ≡ status.BadInput (input.Moves fault)))
       go (inl q) = inl (inr q)
       go (inr (r, says, never, q)) = by r never q
+
+pub play_usual : (names : PlayNames) → IsUsual (play_meaning names)
+play_usual names = record {
+  few = search rules;
+  begins = λ old new same. inl same;
+  others = play_others names;
+  completes = λ healthy shown. play_completes healthy names shown;
+}

@@ -1,6 +1,8 @@
 pub mod Words
-pub mod Making
 pub mod Status
+pub mod Meanings
+pub mod Answers
+pub mod Making
 pub mod Text
 pub mod Judging
 pub mod Run

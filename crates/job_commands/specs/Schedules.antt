@@ -2,7 +2,7 @@
 --
 -- The input files are judged one after another: the first that is not accepted decides the status. Where all are
 -- accepted, the schedule decides it, and then the released packets.
-use Rattle.std.specs.Prelude.{◌≡◌, ◌⊎◌, false, List, length, Result, Ok, Err, ⊤, IsErrOf}
+use Rattle.std.specs.Prelude.{◌≡◌, ◌⊎◌, ℕ, false, List, length, Result, Ok, Err, ⊤, IsErrOf}
 use Rattle.plain_text.specs.declared.fault.LineFault.{LineFault}
 use Rattle.plain_machine.specs.declared.plain_move.PlainMove.{PlainMove}
 use Rattle.plain_machine.specs.declared.plain_move.PlayFault.{PlayFault}
@@ -22,10 +22,13 @@ use Rattle.input_files.specs.Judging.{JudgesCapture, JudgesSchedule, AcceptsBox,
 use Rattle.job_commands.specs.declared.schedule_inputs.ScheduleInputs.{ScheduleInputs}
 use Rattle.job_commands.specs.declared.schedule_inputs.CheckInputs.{CheckInputs}
 use Rattle.job_commands.specs.declared.status.Status.{Status}
-use Rattle.job_commands.specs.Status.{of_schedule_error, of_released_error}
+use Rattle.job_commands.specs.declared.status.Status.TheVariants.{BadInput, Refuted}
+use Rattle.job_commands.specs.declared.status.InputFault.TheVariants.{Moves}
+use Rattle.job_commands.specs.Meanings.{CommandMeaning, NeverUnready, PromisesNothing, StopsAtInputs}
+use Rattle.job_commands.specs.Status.{Completes, of_schedule_error, of_released_error}
 use Rattle.job_commands.specs.Status.{play_outcome, check_outcome}
 use Rattle.job_commands.specs.Turns.{InTurn, JudgesFiles, Third}
-use Rattle.job_commands.specs.Words.{ScheduleNames, PlayNames, CheckNames}
+use Rattle.job_commands.specs.Words.{ScheduleNames, PlayNames, CheckNames, check_inputs, schedule_inputs}
 
 -- Accepted inputs
 
@@ -135,3 +138,37 @@ FindsInOrder names old new =
     KeepsShown old new
     ⊎ ((inputs : CheckInputs) × AcceptsCheckInputs names inputs old × AreFound inputs
     × HasBegun (found_writes (length inputs.released.packets)) old new)
+
+-- What the commands mean
+
+-- Where its inputs are accepted, `play` is done, or names the first illegal move of the schedule.
+abbrev pub play_meaning : PlayNames → CommandMeaning
+play_meaning names = record {
+  inputs = schedule_inputs names.files;
+  files = 4;
+  Leaves = PlaysWhole names;
+  Promises = PromisesNothing;
+  StopsAt = StopsAtInputs;
+  LeavesUnready = NeverUnready;
+  LeavesInOrder = PlaysInOrder names;
+  KeepsNames = λ old new. (name : List ℕ) → ¬ (name ≡ names.out) → new.names name ≡ old.names name;
+  Judges = λ healthy. JudgesPlay healthy names;
+  Accepts = λ shown. (inputs : ScheduleInputs) × AcceptsScheduleInputs names.files inputs shown;
+  CompletesAs = λ status. Completes status ⊎ ((fault : PlayFault) × (status ≡ BadInput (Moves fault)));
+}
+
+-- `check` is done, or says what it refutes. It writes no file.
+abbrev pub check_meaning : CheckNames → CommandMeaning
+check_meaning names = record {
+  inputs = check_inputs names;
+  files = 4;
+  Leaves = FindsAll names;
+  Promises = PromisesNothing;
+  StopsAt = StopsAtInputs;
+  LeavesUnready = NeverUnready;
+  LeavesInOrder = FindsInOrder names;
+  KeepsNames = λ old new. (name : List ℕ) → new.names name ≡ old.names name;
+  Judges = λ healthy. JudgesCheck healthy names;
+  Accepts = λ shown. (inputs : CheckInputs) × AcceptsCheckInputs names inputs shown;
+  CompletesAs = λ status. Completes status ⊎ ((refutation : Refutation) × (status ≡ Refuted refutation));
+}

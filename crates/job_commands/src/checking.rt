@@ -1,20 +1,13 @@
-ghost use Rattle.std.specs.Prelude.{◌≡◌, ◌⊎◌, ◌+◌, ◌<◌, ◌≤◌, ◌^◌, Err, OnOk, IsErrOf};
-ghost use Rattle.std.specs.Prelude.{length};
-ghost use Rattle.plain_text.specs.declared.limit.Limit.{Limit as LimitKind};
+ghost use Rattle.std.specs.Prelude.{◌≡◌, ◌⊎◌, ◌<◌, ◌^◌, Err, OnOk, IsErrOf, length};
 ghost use Rattle.schedule_check.specs.declared.checking.Refutation as refuted;
-ghost use Rattle.world_io.specs.Stream.{Rose};
-ghost use Rattle.world_io.specs.World.{Start, KeepsOrder, WritingFailed};
+ghost use Rattle.world_io.specs.World.{Start, WritingFailed};
 ghost use Rattle.output_files.specs.Writes.{HasBegun, HasWritten};
+ghost use Rattle.output_files.specs.Written.{OnlyWrites};
 ghost use Rattle.schedule_commands.specs.Checking.{SaysCheck, found_writes};
 ghost use Rattle.schedule_commands.specs.Runs.{CanPlay};
-ghost use Rattle.run_writes.specs.Run.{KeepsShown};
-ghost use Rattle.job_commands.specs.Schedules.{AreFound, FindsAll, FindsInOrder, JudgesCheck};
-ghost use Rattle.job_commands.specs.Schedules.{outcome_for, schedule_of};
-ghost use Rattle.job_commands.specs.Status.{AtInputs, AtOutputs, IsRefusal, stage_of};
-ghost use Rattle.job_commands.specs.Status.{stage_of_limit};
-ghost use Rattle.job_commands.specs.Words.{check_inputs, check_names_of};
-ghost use Rattle.input_files.specs.Files.{OpensAll, OpensFirst};
-ghost use Rattle.output_files.specs.Written.{OnlyWrites};
+ghost use Rattle.job_commands.specs.Answers.{AnswersAs};
+ghost use Rattle.job_commands.specs.Schedules.{AreFound, check_meaning, outcome_for, schedule_of};
+ghost use Rattle.job_commands.specs.Words.{check_names_of};
 
 use crate::status::check_outcome;
 use crate::{CheckInputs, CheckWords, Status, read_check_inputs};
@@ -69,30 +62,8 @@ fn check_box<W: World>(
 /// The command `check`: all input files are judged, then the schedule, and then the released packets.
 pub fn check_released<W: World>(alloc: Global, world: &mut W, names: CheckWords<'_>) -> Status
     requires { (W.ledger world.old).given < 2 ^ 31 }
-    ensures creates_nothing { IsRefusal result
-        → (W.ledger world.new).created ≡ (W.ledger world.old).created }
-    ensures words { result ≡ Status.BadWords → ⊥ }
-    ensures opens_in_order { OpensFirst (check_inputs (check_names_of names.entry))
-        (W.ledger world.old) (W.ledger world.new) }
-    ensures opens_all { result ≡ Status.Done → OpensAll (check_inputs (check_names_of names.entry))
-        (W.ledger world.old) (W.ledger world.new) }
-    ensures orderly { KeepsOrder (W.ledger world.old) (W.ledger world.new) }
-    ensures given { (W.ledger world.new).given ≤ (W.ledger world.old).given + 4 }
-    ensures read_fault { result ≡ Status.ReadFault
-        → Rose (W.ledger world.old).read_faults (W.ledger world.new).read_faults }
-    ensures write_fault { result ≡ Status.WriteFault
-        → WritingFailed W.ledger W.healthy world.old world.new }
-    ensures done { (p : Start) → W.honest p world.new → result ≡ Status.Done → FindsAll
-        (check_names_of names.entry) (W.shows p world.old) (W.shows p world.new) }
-    ensures no_limit { (p : Start) → W.honest p world.new → (limit : LimitKind) → result ≡
-        Status.TooLarge limit → stage_of_limit limit ≡ AtOutputs → ⊥ }
-    ensures judged { (p : Start) → W.honest p world.new → JudgesCheck (W.healthy world.old)
-        (check_names_of names.entry) result (W.shows p world.old) }
-    ensures in_order { (p : Start) → W.honest p world.new → FindsInOrder
-        (check_names_of names.entry) (W.shows p world.old) (W.shows p world.new) }
-    ensures refused { (p : Start) → W.honest p world.new → stage_of result ≡ AtInputs
-        → KeepsShown (W.shows p world.old) (W.shows p world.new) }
-    ensures before { (p : Start) → W.honest p world.new → W.honest p world.old }
+    ensures { AnswersAs W.honest W.shows W.ledger W.healthy
+        (check_meaning (check_names_of names.entry)) result world.old world.new }
 {
     match read_check_inputs(alloc, world, names) {
         Ok(inputs) => check_outcome(check_box(alloc, world, inputs)),

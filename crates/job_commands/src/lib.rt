@@ -49,6 +49,6 @@ pub use resume_words::{ResumeWords, read_resume_words};
 pub use run_words::{RunWords, read_run_words};
 pub use schedule_inputs::{CheckInputs, ScheduleInputs, read_check_inputs, read_schedule_inputs};
 pub use schedule_words::{CheckWords, PlayWords, ScheduleFiles, read_check_words, read_play_words};
-pub use status::{InputFault, Status, outcome, run_outcome};
+pub use status::{InputFault, Status, run_outcome};
 pub use text::StatusText;
 pub use trace_words::{TraceWords, read_trace_words};

@@ -3,11 +3,13 @@ ghost use Rattle.plain_text.specs.Packets.{IsShort};
 ghost use Rattle.plain_text.specs.declared.limit.TheConstants.{MOST_PACKETS};
 ghost use Rattle.traffic_gen.specs.Generated.{generated};
 ghost use Rattle.output_files.specs.Written.{Writes, WritesFiles};
-ghost use Rattle.job_commands.specs.Making.{made_writes};
+ghost use Rattle.job_commands.specs.Answers.{AnswersAs};
+ghost use Rattle.job_commands.specs.Making.{made_writes, make_meaning};
 ghost use Rattle.job_commands.specs.Words.{made_of};
 ghost use Rattle.world_io.specs.World.{Start, WritingFailed};
 
-use crate::MakeWords;
+use crate::status::outcome;
+use crate::{MakeWords, Status};
 use output_files::OutputError;
 use plain_text::{NoMemory, Packets, Unit};
 use schedule_commands::{put_count, write_capture};
@@ -24,8 +26,8 @@ fn make_packets(alloc: Global, seed: u64, count: u64) -> Result<Packets, NoMemor
     make(alloc, seed, count)
 }
 
-/// The command `make`: writes the capture of the generated packets, and reports how many there are.
-pub fn make_capture<W: World>(
+/// Writes the capture of the generated packets, and reports how many there are.
+fn write_made<W: World>(
     alloc: Global,
     world: &mut W,
     words: MakeWords<'_>,
@@ -49,4 +51,14 @@ pub fn make_capture<W: World>(
         packets.as_slice(),
         report.as_slice(),
     )
+}
+
+/// The command `make`: makes packets, writes their capture, and reports how many there are.
+pub fn make_capture<W: World>(alloc: Global, world: &mut W, words: MakeWords<'_>) -> Status
+    requires room { (W.ledger world.old).given < 2 ^ 32 - 1 }
+    requires few { words.count ≤ MOST_PACKETS }
+    ensures { AnswersAs W.honest W.shows W.ledger W.healthy
+        (make_meaning (made_of words.entry)) result world.old world.new }
+{
+    outcome(write_made(alloc, world, words))
 }

@@ -1,5 +1,5 @@
 -- What the status of `chain` says, and what it leaves: from before its inputs were read.
-use Rattle.std.proofs.Common.{◌≡◌, ◌⊎◌, ℕ, Bool, true, false, List, [], ◌∷◌, ◌++◌, refl, sym, ap, ◌∙◌, subst, inl, inr}
+use Rattle.std.proofs.Common.{◌≡◌, ◌⊎◌, ℕ, List, [], ◌∷◌, ◌++◌, refl, sym, ap, ◌∙◌, subst, inl, inr, rules}
 use Rattle.std.proofs.Common.{Result, Ok, Err}
 use Rattle.std.specs.Prelude.{⊤, IsErrOf, OnOk}
 use Rattle.plain_text.specs.declared.limit.Limit.{Limit}
@@ -20,19 +20,20 @@ use Rattle.chain_command.specs.Headline.{KeepsChainPromise as KeepsBothPromises}
 use Rattle.chain_command.specs.Outputs.{ChainNames as OutputNames}
 use Rattle.chain_command.specs.Replies.{ChainReply}
 use Rattle.chain_command.specs.Writes.{HasBegunChain, HasChained, HasFiles, HasStopped, IsWritten, opening_writes}
-use Rattle.chain_command.specs.Writes.{passed_writes, replies_writes, writes_of}
+use Rattle.chain_command.specs.Writes.{replies_writes, writes_of}
 use Rattle.job_commands.specs.declared.chain_inputs.ChainInputs.{ChainInputs}
 use Rattle.job_commands.specs.declared.status.Status.{Status}
 use Rattle.job_commands.specs.declared.status.Status.TheVariants as status
 use Rattle.job_commands.specs.Chain.{AcceptsChainInputs, JudgesChainInputs}
 use Rattle.job_commands.specs.ChainWords.{ChainNames}
-use Rattle.job_commands.specs.Status.{AtInputs, AtOutputs, Completes, run_outcome, stage_of, stage_of_limit}
+use Rattle.job_commands.specs.Status.{AtOutputs, Completes, run_outcome, stage_of_limit}
 use Rattle.job_commands.proofs.ChainFiles.{chain_accepted, chain_pass, chain_refused as files_refused}
 use Rattle.job_commands.proofs.Outcomes.{begun_writes_since}
 use Rattle.job_commands.proofs.RunLimits.{stops_are}
-use Rattle.job_top.specs.Chain.{AreAcceptedForChain, ChainsInOrder, ChainsToLimit, ChainsWhole, JudgesChain}
+use Rattle.job_top.specs.Chain.{AreAcceptedForChain, ChainsInOrder, ChainsWhole, JudgesChain}
 use Rattle.job_top.specs.Chain.{KeepsChainNames, SaysOfChain, chain_outputs, first_of, second_of}
-use Rattle.job_top.specs.Headline.{KeepsChainPromise}
+use Rattle.job_top.specs.Chain.{KeepsChainPromise, chain_meaning}
+use Rattle.job_commands.proofs.Usual.{Ends, IsUsual, run_says, stops_late}
 
 -- The files are as they were when the inputs had been read.
 module _ (a b c : Shown) (keeps : KeepsOutputs a b) where
@@ -102,7 +103,7 @@ module _ (healthy : Type 0) (names : ChainNames) (inputs : ChainInputs) (a c : S
   behind_files : (s : Status) → SaysOfChain healthy inputs s → JudgesChain healthy names s a
   behind_files s says = chain_accepted healthy names a (SaysOfChain healthy) inputs s accepted says
 
-  pub chain_judged : (r : Result ⊤ RunError) → (healthy → ¬ IsErrOf r run_error.WriteFault) → Leaves r → Stops r
+  chain_judged : (r : Result ⊤ RunError) → (healthy → ¬ IsErrOf r run_error.WriteFault) → Leaves r → Stops r
       → JudgesChain healthy names (run_outcome r) a
   chain_judged (Ok done) never whole limit =
       behind_files status.Done
@@ -113,45 +114,27 @@ module _ (healthy : Type 0) (names : ChainNames) (inputs : ChainInputs) (a c : S
   chain_judged (Err run_error.WriteFault) never whole limit = behind_files status.WriteFault (λ ok. never ok refl)
   chain_judged (Err run_error.NoMemory) never whole limit = behind_files status.NoMemory tt
 
-  pub chain_done : (r : Result ⊤ RunError) → run_outcome r ≡ status.Done → Leaves r → ChainsWhole names a c
-  chain_done (Ok done) e whole = (inputs, accepted, whole)
-  chain_done (Err (run_error.Limit l)) e whole = absurd (cc)
-  chain_done (Err run_error.WriteFault) e whole = absurd (cc)
-  chain_done (Err run_error.NoMemory) e whole = absurd (cc)
+  abbrev Keeps : Result ⊤ RunError → Type 0
+  Keeps r = OnOk r (KeepsBothPromises (first_of inputs) (second_of inputs) (chain_outputs names) inputs.events c)
 
-  pub chain_promise : (r : Result ⊤ RunError) → run_outcome r ≡ status.Done
-      → OnOk r (KeepsBothPromises (first_of inputs) (second_of inputs) (chain_outputs names) inputs.events c)
-      → KeepsChainPromise names a c
-  chain_promise (Ok done) e keeps = record { inputs = inputs; accepted = accepted; keeps = keeps }
-  chain_promise (Err (run_error.Limit l)) e keeps = absurd (cc)
-  chain_promise (Err run_error.WriteFault) e keeps = absurd (cc)
-  chain_promise (Err run_error.NoMemory) e keeps = absurd (cc)
+  whole : (r : Result ⊤ RunError) → Leaves r → Keeps r
+      → OnOk r (ChainsWhole names a c × KeepsChainPromise names a c)
+  whole (Ok done) run keeps =
+      ((inputs, accepted, run), record { inputs = inputs; accepted = accepted; keeps = keeps })
+  whole (Err error) run keeps = tt
 
-  pub chain_limit : (r : Result ⊤ RunError) (l : Limit) → run_outcome r ≡ status.TooLarge l → Stops r
-      → ChainsToLimit names l a c
-  chain_limit (Ok done) l e limit = absurd (cc)
-  chain_limit (Err (run_error.Limit k)) l e limit =
-      let same : k ≡ l = cc in (
-        inputs,
-        accepted,
-        subst
-            (λ (m : Limit).
-            HasStopped (first_of inputs) (second_of inputs) (chain_outputs names) inputs.events m a c)
-            same (limit k refl),
-      )
-  chain_limit (Err run_error.WriteFault) l e limit = absurd (cc)
-  chain_limit (Err run_error.NoMemory) l e limit = absurd (cc)
-
-  -- a chain never ends at its inputs
-  pub chain_not_at_inputs : (r : Result ⊤ RunError) → stage_of (run_outcome r) ≡ AtInputs → Stops r → ⊥
-  chain_not_at_inputs (Ok done) e limit = cc
-  chain_not_at_inputs (Err (run_error.Limit l)) e limit =
-      let at = (limit l refl).leaves in
-      let stage : stage_of_limit l ≡ AtOutputs =
-      chain_stops_are (first_of inputs) (second_of inputs) at.there at.event l at.worlds at.stops in
-      cc
-  chain_not_at_inputs (Err run_error.WriteFault) e limit = cc
-  chain_not_at_inputs (Err run_error.NoMemory) e limit = cc
+  pub chain_ends : (r : Result ⊤ RunError) → (healthy → ¬ IsErrOf r run_error.WriteFault) → Leaves r → Keeps r
+      → Stops r → HasBegunChain (first_of inputs) (second_of inputs) (chain_outputs names) inputs.events a c
+      → Ends (chain_meaning names) healthy (run_outcome r) a c
+  chain_ends r never run keeps limit begun = record {
+    says = run_says (chain_meaning names) a c r (whole r run keeps) (λ l is.
+        let h = limit l is in
+        stops_late l a c _
+        (chain_stops_are (first_of inputs) (second_of inputs) h.leaves.there h.leaves.event l h.leaves.worlds
+        h.leaves.stops) (inputs, accepted, h));
+    in_order = inr (inputs, accepted, begun);
+    judged = chain_judged r never run limit;
+  }
 
 -- what a refused input says
 pub chain_refused : (healthy : Type 0) (names : ChainNames) (s : Status) (a : Shown)
@@ -212,3 +195,11 @@ chain_others names a b (inr (inputs, accepted, (writes, is, begun))) name one tw
     ∙ spared name begun.done (a.names name) (spare_cut name begun.done writes
     (chain_spares (chain_outputs names) name (λ e. one (sym e)) (λ e. two (sym e)) (λ e. three (sym e))
     (λ e. four (sym e)) (first_of inputs) (second_of inputs) inputs.events writes is) begun.cut)
+
+pub chain_usual : (names : ChainNames) → IsUsual (chain_meaning names)
+chain_usual names = record {
+  few = search rules;
+  begins = λ old new same. inl same;
+  others = chain_others names;
+  completes = λ healthy shown. chain_completes healthy names shown;
+}

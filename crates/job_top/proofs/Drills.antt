@@ -1,5 +1,5 @@
 -- What the status of `drill` says, and what it leaves: from before its inputs were read.
-use Rattle.std.proofs.Common.{◌≡◌, ◌⊎◌, ℕ, Bool, List, [], refl, sym, ap, ◌∙◌, subst, inl, inr, Result, Ok, Err}
+use Rattle.std.proofs.Common.{◌≡◌, ◌⊎◌, ℕ, Bool, List, [], refl, sym, ap, ◌∙◌, inl, inr, Result, Ok, Err, rules}
 use Rattle.std.specs.Prelude.{⊤, IsErrOf, OnOk}
 use Rattle.plain_text.specs.declared.limit.Limit.{Limit}
 use Rattle.plain_player.specs.ScheduleText.{schedule_text}
@@ -18,14 +18,17 @@ use Rattle.noted_runs.specs.Drill.{HasBegunDrill, HasDrilled, HasStopped, IsWrit
 use Rattle.job_commands.specs.declared.first_inputs.FirstInputs.{FirstInputs}
 use Rattle.job_commands.specs.declared.status.Status.{Status}
 use Rattle.job_commands.specs.declared.status.Status.TheVariants as status
-use Rattle.job_commands.specs.Status.{AtInputs, AtOutputs, Completes, run_outcome, stage_of, stage_of_limit}
+use Rattle.job_commands.specs.Status.{AtOutputs, Completes, run_outcome, stage_of_limit}
 use Rattle.job_commands.specs.Turns.{JudgesFirst}
 use Rattle.job_commands.specs.Words.{DrillNames}
 use Rattle.job_commands.proofs.Outcomes.{begun_writes_since, files_since, written_since}
 use Rattle.job_commands.proofs.RunLimits.{stops_are}
 use Rattle.job_commands.proofs.ThreeFiles.{two_accepted, two_pass, two_refused}
-use Rattle.job_top.specs.Drill.{AcceptsDrillInputs, AreAcceptedForDrill, DrillsInOrder, DrillsToLimit, DrillsWhole}
+use Rattle.job_top.specs.Drill.{AcceptsDrillInputs, AreAcceptedForDrill, DrillsInOrder, DrillsWhole}
 use Rattle.job_top.specs.Drill.{JudgesDrill, SaysOfDrill, drill_outputs, drill_setting, has_drop_table}
+use Rattle.job_commands.proofs.Usual.{Ends, IsUsual, run_says, stops_late}
+use Rattle.job_top.specs.Drill.{KeepsDrillPromise, drill_meaning}
+use Rattle.job_top.proofs.Promise.{drill_promise}
 
 -- The files are as they were when the inputs had been read.
 module _ (a b c : Shown) (keeps : KeepsOutputs a b) where
@@ -92,7 +95,7 @@ module _ (healthy : Type 0) (names : DrillNames) (inputs : FirstInputs) (a c : S
       two_accepted healthy names.box_file names.capture a (Behind healthy names) inputs.conf inputs.capture s
       accepted.box_accepted accepted.capture_accepted says
 
-  pub drill_judged : (r : Result ⊤ RunError) → (healthy → ¬ IsErrOf r run_error.WriteFault) → Leaves r → Stops r
+  drill_judged : (r : Result ⊤ RunError) → (healthy → ¬ IsErrOf r run_error.WriteFault) → Leaves r → Stops r
       → JudgesDrill healthy names (run_outcome r) a
   drill_judged (Ok done) never whole limit =
       behind status.Done (whole.report, whole.released, whole.schedule, whole.drills)
@@ -101,35 +104,19 @@ module _ (healthy : Type 0) (names : DrillNames) (inputs : FirstInputs) (a c : S
   drill_judged (Err run_error.WriteFault) never whole limit = behind status.WriteFault (λ ok. never ok refl)
   drill_judged (Err run_error.NoMemory) never whole limit = behind status.NoMemory tt
 
-  pub drill_done : (r : Result ⊤ RunError) → run_outcome r ≡ status.Done → Leaves r → DrillsWhole names a c
-  drill_done (Ok done) e whole = (inputs, accepted, whole)
-  drill_done (Err (run_error.Limit l)) e whole = absurd (cc)
-  drill_done (Err run_error.WriteFault) e whole = absurd (cc)
-  drill_done (Err run_error.NoMemory) e whole = absurd (cc)
+  whole : (r : Result ⊤ RunError) → Leaves r → OnOk r (DrillsWhole names a c × KeepsDrillPromise names a c)
+  whole (Ok done) run = let all : DrillsWhole names a c = (inputs, accepted, run) in (all, drill_promise names a c all)
+  whole (Err error) run = tt
 
-  pub drill_limit : (r : Result ⊤ RunError) (l : Limit) → run_outcome r ≡ status.TooLarge l → Stops r
-      → DrillsToLimit names l a c
-  drill_limit (Ok done) l e limit = absurd (cc)
-  drill_limit (Err (run_error.Limit k)) l e limit =
-      let same : k ≡ l = cc in (
-        inputs,
-        accepted,
-        subst (λ (m : Limit). HasStopped (drill_setting names inputs) names.every (drill_outputs names) m a c) same
-            (limit k refl),
-      )
-  drill_limit (Err run_error.WriteFault) l e limit = absurd (cc)
-  drill_limit (Err run_error.NoMemory) l e limit = absurd (cc)
-
-  -- a drill never ends at its inputs
-  pub drill_not_at_inputs : (r : Result ⊤ RunError) → stage_of (run_outcome r) ≡ AtInputs → Stops r → ⊥
-  drill_not_at_inputs (Ok done) e limit = cc
-  drill_not_at_inputs (Err (run_error.Limit l)) e limit =
-      let h = limit l refl in
-      let stage : stage_of_limit l ≡ AtOutputs =
-      drill_stops_are (drill_setting names inputs) names.every l h.released h.stops in
-      cc
-  drill_not_at_inputs (Err run_error.WriteFault) e limit = cc
-  drill_not_at_inputs (Err run_error.NoMemory) e limit = cc
+  pub drill_ends : (r : Result ⊤ RunError) → (healthy → ¬ IsErrOf r run_error.WriteFault) → Leaves r → Stops r
+      → HasBegunDrill (drill_setting names inputs) names.every (has_drop_table inputs.conf.kind) (drill_outputs names) a c
+      → Ends (drill_meaning names) healthy (run_outcome r) a c
+  drill_ends r never run limit begun = record {
+    says = run_says (drill_meaning names) a c r (whole r run) (λ l is.
+        let h = limit l is in stops_late l a c _ (drill_stops_are (drill_setting names inputs) names.every l h.released h.stops) (inputs, accepted, h));
+    in_order = inr (inputs, accepted, begun);
+    judged = drill_judged r never run limit;
+  }
 
 -- what a refused input says
 pub drill_refused : (healthy : Type 0) (names : DrillNames) (s : Status) (a : Shown)
@@ -180,3 +167,11 @@ drill_others names a b (inr (inputs, accepted, inr (writes, is, begun))) name on
     ∙ spared name begun.done (a.names name) (spare_cut name begun.done writes
     (drill_spares (drill_setting names inputs) names.every (has_drop_table inputs.conf.kind) (drill_outputs names) name
     one two writes is) begun.cut)
+
+pub drill_usual : (names : DrillNames) → IsUsual (drill_meaning names)
+drill_usual names = record {
+  few = search rules;
+  begins = λ old new same. inl same;
+  others = drill_others names;
+  completes = λ healthy shown. drill_completes healthy names shown;
+}

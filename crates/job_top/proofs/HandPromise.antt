@@ -22,7 +22,8 @@ use Rattle.input_files.proofs.ImageVerdicts.{image_accepted}
 use Rattle.job_commands.specs.HandWords.{HandNames}
 use Rattle.job_commands.specs.Run.{setting_for}
 use Rattle.job_top.specs.Hand.{HandsWhole, hand_outputs}
-use Rattle.job_top.specs.Headline.{KeepsHandPromise, KeepsHanded}
+use Rattle.job_top.specs.Hand.{KeepsHandPromise}
+use Rattle.job_top.specs.Headline.{KeepsHanded}
 use Rattle.job_top.proofs.SealedImages.{is_of_seal, is_read}
 
 module _ {V : Type 0} (s : Setting V) (events : List Event) (h : HandsOver s events) where

@@ -1,5 +1,5 @@
 -- What the status of `hand` says, and what it leaves: from before its inputs were read.
-use Rattle.std.proofs.Common.{◌≡◌, ◌⊎◌, ℕ, List, ◌∷◌, ◌++◌, refl, ap, ◌∙◌, subst, inl, inr, Result, Ok, Err}
+use Rattle.std.proofs.Common.{◌≡◌, ◌⊎◌, ℕ, List, ◌∷◌, ◌++◌, refl, ap, ◌∙◌, subst, inl, inr, Result, Ok, Err, rules}
 use Rattle.std.proofs.Common.{append_assoc, Option}
 use Rattle.std.specs.Prelude.{⊤, IsErrOf, OnOk}
 use Rattle.plain_text.specs.declared.limit.Limit.{Limit}
@@ -9,7 +9,7 @@ use Rattle.recovery_world.specs.World.{Setting}
 use Rattle.recovery_world.specs.Files.{done_line}
 use Rattle.handover_world.specs.declared.unready.Unready.{Unready}
 use Rattle.run_writes.specs.Replies.{lines_in, released_in}
-use Rattle.run_writes.specs.Run.{HasStopped, OutputNames}
+use Rattle.run_writes.specs.Run.{OutputNames}
 use Rattle.run_writes.proofs.ScriptAnswers.{answers_perform}
 use Rattle.hand_command.specs.declared.error.HandError.{HandError}
 use Rattle.hand_command.specs.declared.error.HandError.TheVariants as hand_error
@@ -22,17 +22,24 @@ use Rattle.job_commands.specs.declared.status.Status.TheVariants as status
 use Rattle.job_commands.specs.Judging.{Judges}
 use Rattle.job_commands.specs.Run.{StopsRun, setting_for}
 use Rattle.input_files.specs.Judging.{ScriptTooLarge}
-use Rattle.job_commands.specs.Status.{AtInputs, ComesAt, Completes, EndsReading, IsRefusal, stage_of}
+use Rattle.job_commands.specs.Status.{AtInputs, ComesAt, Completes, EndsReading}
 use Rattle.job_commands.specs.Turns.{FirstIsTooLarge}
 use Rattle.job_commands.specs.HandWords.{HandNames}
 use Rattle.job_commands.specs.Words.{run_of_hand}
 use Rattle.job_commands.proofs.OneVerdict.{inputs_one, run_completes}
 use Rattle.job_commands.proofs.Outcomes.{begun_writes_since, files_since, not_of_run, stopped_since}
 use Rattle.job_commands.proofs.RunLimits.{stops_are}
-use Rattle.job_top.specs.Hand.{AcceptsHandInputs, AreAcceptedForHand, HandsInOrder, HandsToLimit, HandsUnready}
+use Rattle.job_top.specs.Hand.{AcceptsHandInputs, AreAcceptedForHand, HandsInOrder}
 use Rattle.job_top.specs.Hand.{HandsWhole, JudgesHand, KeepsHandNames, PassesLimit, StopsHand, hand_outcome}
 use Rattle.job_top.specs.Hand.{hand_outputs}
 use Rattle.job_top.proofs.SparedNames.{spare_hand}
+use Rattle.world_io.specs.World.{Ledger, WritingFailed}
+use Rattle.input_files.specs.Files.{OpensAll}
+use Rattle.job_commands.specs.Answers.{Counts, SaysOf}
+use Rattle.job_commands.specs.Words.{hand_inputs}
+use Rattle.job_commands.proofs.Usual.{Ends, IsUsual}
+use Rattle.job_top.specs.Hand.{hand_meaning}
+use Rattle.job_top.proofs.HandPromise.{hand_promise}
 
 -- The files are as they were when the inputs had been read.
 module _ (a b c : Shown) (keeps : KeepsOutputs a b) {V : Type 0} (seal : Option (List ℕ)) (s : Setting V)
@@ -99,7 +106,7 @@ module _ (healthy : Type 0) (names : HandNames) (inputs : Inputs) (a c : Shown)
       (limit : Limit) → r ≡ Err (hand_error.Limit limit)
       → PassesLimit inputs (hand_outputs names) limit a c
 
-  pub hand_judged : (r : Result ⊤ HandError) → (healthy → ¬ IsErrOf r hand_error.WriteFault) → Leaves r
+  hand_judged : (r : Result ⊤ HandError) → (healthy → ¬ IsErrOf r hand_error.WriteFault) → Leaves r
       → StaysUnready r → Stops r → JudgesHand healthy names (hand_outcome r) a
   hand_judged (Ok done) never whole unready limit = (inputs, accepted, whole.hand)
   hand_judged (Err (hand_error.Limit l)) never whole unready limit =
@@ -118,49 +125,35 @@ module _ (healthy : Type 0) (names : HandNames) (inputs : Inputs) (a c : Shown)
         ),
       )
 
-  pub hand_done : (r : Result ⊤ HandError) → hand_outcome r ≡ status.Done → Leaves r → HandsWhole names a c
-  hand_done (Ok done) e whole = (inputs, accepted, whole)
-  hand_done (Err (hand_error.Limit l)) e whole = absurd (cc)
-  hand_done (Err hand_error.WriteFault) e whole = absurd (cc)
-  hand_done (Err hand_error.NoMemory) e whole = absurd (cc)
-  hand_done (Err (hand_error.Unready u)) e whole = absurd (cc)
+  hand_says : (r : Result ⊤ HandError) → Leaves r → StaysUnready r → Stops r
+      → SaysOf (hand_meaning names) (hand_outcome r) a c
+  hand_says (Ok done) whole unready limit =
+      let all : HandsWhole names a c = (inputs, accepted, whole) in (all, hand_promise names a c all)
+  hand_says (Err (hand_error.Limit l)) whole unready limit = inr (inputs, accepted, limit l refl)
+  hand_says (Err hand_error.WriteFault) whole unready limit = tt
+  hand_says (Err hand_error.NoMemory) whole unready limit = tt
+  hand_says (Err (hand_error.Unready u)) whole unready limit = (inputs, accepted, unready u refl)
 
-  pub hand_unready : (r : Result ⊤ HandError) (u : Unready) → hand_outcome r ≡ status.Unready u → StaysUnready r
-      → HandsUnready names u a c
-  hand_unready (Ok done) u e unready = absurd (cc)
-  hand_unready (Err (hand_error.Limit l)) u e unready = absurd (cc)
-  hand_unready (Err hand_error.WriteFault) u e unready = absurd (cc)
-  hand_unready (Err hand_error.NoMemory) u e unready = absurd (cc)
-  hand_unready (Err (hand_error.Unready v)) u e unready =
-      let same : v ≡ u = cc in (
-        inputs,
-        accepted,
-        subst (λ (x : Unready). IsNotReady (setting_for inputs) (hand_outputs names) inputs.events x a c) same
-            (unready v refl),
-      )
+  pub hand_ends : (r : Result ⊤ HandError) → (healthy → ¬ IsErrOf r hand_error.WriteFault) → Leaves r
+      → StaysUnready r → Stops r
+      → HasBegunHand inputs.conf.seal (setting_for inputs) (hand_outputs names) inputs.events a c
+      → Ends (hand_meaning names) healthy (hand_outcome r) a c
+  hand_ends r never whole unready limit begun = record {
+    says = hand_says r whole unready limit;
+    in_order = inr (inputs, accepted, begun);
+    judged = hand_judged r never whole unready limit;
+  }
 
-  pub hand_limit : (r : Result ⊤ HandError) (l : Limit) → hand_outcome r ≡ status.TooLarge l → Stops r
-      → HandsToLimit names l a c
-  hand_limit (Ok done) l e limit = absurd (cc)
-  hand_limit (Err (hand_error.Limit k)) l e limit =
-      let same : k ≡ l = cc in
-      inr (
-        inputs,
-        accepted,
-        subst (λ (m : Limit). PassesLimit inputs (hand_outputs names) m a c) same (limit k refl),
-      )
-  hand_limit (Err hand_error.WriteFault) l e limit = absurd (cc)
-  hand_limit (Err hand_error.NoMemory) l e limit = absurd (cc)
-  hand_limit (Err (hand_error.Unready u)) l e limit = absurd (cc)
-
--- a hand-over never ends at its inputs but by a limit
-pub hand_not_at_inputs : (r : Result ⊤ HandError) → stage_of (hand_outcome r) ≡ AtInputs
-    → ((limit : Limit) → hand_outcome r ≡ status.TooLarge limit → ⊥) → ⊥
-hand_not_at_inputs (Ok done) e none = cc
-hand_not_at_inputs (Err (hand_error.Limit l)) e none = none l refl
-hand_not_at_inputs (Err hand_error.WriteFault) e none = cc
-hand_not_at_inputs (Err hand_error.NoMemory) e none = cc
-hand_not_at_inputs (Err (hand_error.Unready u)) e none = cc
+-- What it says of the ledger, where all inputs were opened.
+pub hand_counts : {W : Type 0} (ledger : W → Ledger) (healthy : W → Type 0) (names : HandNames) (old new : W)
+    (r : Result ⊤ HandError) → OpensAll (hand_inputs names) (ledger old) (ledger new)
+    → (IsErrOf r hand_error.WriteFault → WritingFailed ledger healthy old new)
+    → Counts ledger healthy (hand_meaning names) (hand_outcome r) old new
+hand_counts ledger healthy names old new (Ok done) opened cause = opened
+hand_counts ledger healthy names old new (Err (hand_error.Limit l)) opened cause = tt
+hand_counts ledger healthy names old new (Err hand_error.WriteFault) opened cause = cause refl
+hand_counts ledger healthy names old new (Err hand_error.NoMemory) opened cause = tt
+hand_counts ledger healthy names old new (Err (hand_error.Unready u)) opened cause = tt
 
 -- an input that passes a limit is the first that is not accepted
 pub first_too_large : (healthy : Type 0) (names : HandNames) (limit : Limit) (a : Shown)
@@ -170,38 +163,6 @@ first_too_large healthy names limit a early (inl first) = first
 first_too_large healthy names limit a early (inr (inputs, accepted, (report, released, at))) =
     absurd (not_of_run (status.TooLarge limit) limit refl
     (stops_are (setting_for inputs) at.there at.event limit at.world at.stops) early)
-
-pub hand_words : (r : Result ⊤ HandError) → hand_outcome r ≡ status.BadWords → ⊥
-hand_words (Ok done) e = cc
-hand_words (Err (hand_error.Limit l)) e = cc
-hand_words (Err hand_error.WriteFault) e = cc
-hand_words (Err hand_error.NoMemory) e = cc
-hand_words (Err (hand_error.Unready u)) e = cc
-
-pub hand_reads : (r : Result ⊤ HandError) → hand_outcome r ≡ status.ReadFault → ⊥
-hand_reads (Ok done) e = cc
-hand_reads (Err (hand_error.Limit l)) e = cc
-hand_reads (Err hand_error.WriteFault) e = cc
-hand_reads (Err hand_error.NoMemory) e = cc
-hand_reads (Err (hand_error.Unready u)) e = cc
-
-pub hand_fails : (r : Result ⊤ HandError) → hand_outcome r ≡ status.WriteFault → IsErrOf r hand_error.WriteFault
-hand_fails (Ok done) e = absurd (cc)
-hand_fails (Err (hand_error.Limit l)) e = absurd (cc)
-hand_fails (Err hand_error.WriteFault) e = refl
-hand_fails (Err hand_error.NoMemory) e = absurd (cc)
-hand_fails (Err (hand_error.Unready u)) e = absurd (cc)
-
-pub hand_refuses : (r : Result ⊤ HandError) → IsRefusal (hand_outcome r) → ⊥
-hand_refuses (Ok done) e = e
-hand_refuses (Err (hand_error.Limit l)) e = e
-hand_refuses (Err hand_error.WriteFault) e = e
-hand_refuses (Err hand_error.NoMemory) e = e
-hand_refuses (Err (hand_error.Unready u)) e = e
-
--- no input is refused so
-pub quiet_unready : (s : Status) (u : Unready) → s ≡ status.Unready u → EndsReading s → ⊥
-quiet_unready s u e h = subst (λ (s : Status). EndsReading s) e h
 
 -- what a refused input says, which is no stop of a run
 pub hand_refused : (healthy : Type 0) (names : HandNames) (s : Status) (a : Shown) → EndsReading s
@@ -272,3 +233,11 @@ hand_others names a b (inr (inputs, accepted, (writes, is, begun))) name one two
     ∙ spared name begun.done (a.names name) (spare_cut name begun.done writes
     (spare_hand (hand_outputs names) name one two inputs.conf.seal (setting_for inputs) inputs.events writes is)
     begun.cut)
+
+pub hand_usual : (names : HandNames) → IsUsual (hand_meaning names)
+hand_usual names = record {
+  few = search rules;
+  begins = λ old new same. inl same;
+  others = hand_others names;
+  completes = λ healthy shown. hand_completes healthy names shown;
+}

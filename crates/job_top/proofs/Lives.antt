@@ -1,5 +1,5 @@
 -- What the status of `live` says, and what it leaves: from before its inputs were read.
-use Rattle.std.proofs.Common.{◌≡◌, ◌⊎◌, ℕ, List, [], ◌∷◌, ◌++◌, Option, None, Some, refl, sym, ap, ◌∙◌, subst, inl, inr}
+use Rattle.std.proofs.Common.{◌≡◌, ◌⊎◌, ℕ, List, [], ◌∷◌, Option, None, Some, refl, sym, ap, ◌∙◌, inl, inr, rules}
 use Rattle.std.proofs.Common.{Result}
 use Rattle.std.proofs.Common.{Ok, Err, if◌then◌else◌}
 use Rattle.std.specs.Prelude.{⊤, IfSome, IsErrOf, OnOk}
@@ -8,16 +8,14 @@ use Rattle.plain_text.specs.declared.limit.Limit.{Limit}
 use Rattle.world_io.specs.World.{Shown}
 use Rattle.recovery_world.specs.declared.event.Event.{Event}
 use Rattle.recovery_world.specs.World.{Setting}
-use Rattle.output_files.specs.Writes.{Write, Creates, HasBegun, after_writes}
 use Rattle.output_files.proofs.Effects.{Compared, compared, IsSame, Differs}
 use Rattle.run_writes.specs.declared.error.RunError.{RunError}
 use Rattle.run_writes.specs.declared.error.RunError.TheVariants as run_error
-use Rattle.run_writes.specs.Run.{KeepsShown}
 use Rattle.input_files.specs.Files.{KeepsOutputs}
 use Rattle.plan_script.specs.declared.plan.PlanLine.{PlanLine}
 use Rattle.live_writes.specs.Outputs.{LiveOutputs, holding}
-use Rattle.live_writes.specs.Told.{HasBegunLive, IsAhead}
-use Rattle.live_writes.specs.Whole.{BeginsLive, HaltsLive, HasLived, HasPaused, live_opening}
+use Rattle.live_writes.specs.Told.{HasBegunLive}
+use Rattle.live_writes.specs.Whole.{BeginsLive, HaltsLive, HasLived, live_opening}
 use Rattle.live_command.specs.Plans.{LivesInOrder, LivesToLimit, LivesWhole}
 use Rattle.live_writes.specs.Script.{SpareName}
 use Rattle.live_writes.proofs.ScriptSteps.{spare_cut, spared}
@@ -28,16 +26,21 @@ use Rattle.job_commands.specs.declared.status.Status.{Status}
 use Rattle.job_commands.specs.declared.status.Status.TheVariants as status
 use Rattle.job_commands.specs.ChainWords.{ChainNames, chain_names}
 use Rattle.job_commands.specs.HandWords.{HandNames, ResumeNames, hand_names, resume_names}
-use Rattle.job_commands.specs.Live.{AcceptsLiveInputs, JudgesLiveFiles, JudgesLiveInputs}
-use Rattle.job_commands.specs.Status.{AtAnyTime, AtInputs, Completes, run_outcome, stage_of}
+use Rattle.job_commands.specs.Live.{AcceptsLiveInputs, JudgesLiveInputs}
+use Rattle.job_commands.specs.Status.{Completes, run_outcome}
 use Rattle.job_commands.specs.Words.{CheckNames, DrillNames, IfAsks, LiveNames, Lives, MakeNames, PlayNames, RunNames}
 use Rattle.job_commands.specs.Words.{PictureNames, TraceNames, asked, picture_names, trace_names}
 use Rattle.job_commands.specs.Words.{check_names, drill_names, live_names, make_names, one_of, play_names, run_names}
 use Rattle.job_commands.proofs.LiveFiles.{live_pass}
 use Rattle.job_commands.proofs.Outcomes.{begun_since, begun_writes_since, run_since, stopped_since, files_since}
-use Rattle.job_top.specs.Commands.{Leaves}
-use Rattle.job_top.specs.Live.{EventsStop, JudgesLive, KeepsLiveNames, LivesFiles, LivesLimit, LivesOrder, SaysOfRun}
-use Rattle.job_top.specs.Live.{live_outputs, live_setting, written_stage}
+use Rattle.job_top.specs.Live.{EventsStop, JudgesLive, KeepsLiveNames, LivesFiles, LivesOrder, SaysOfRun}
+use Rattle.job_top.specs.Live.{live_outputs, live_setting}
+use Rattle.job_commands.specs.Meanings.{CommandMeaning}
+use Rattle.job_commands.specs.Words.{Asked, Runs, Makes, Plays, Checks, Drills, Traces, Draws, Chains, Hands, Resumes}
+use Rattle.job_commands.proofs.Usual.{Ends, IsUsual, run_says}
+use Rattle.job_top.specs.Commands.{meaning_of}
+use Rattle.job_top.specs.Live.{KeepsLivePromise, live_meaning}
+use Rattle.job_top.proofs.Promise.{live_promise}
 
 -- The files are as they were when the inputs had been read.
 module _ (a b c : Shown) (keeps : KeepsOutputs a b) where
@@ -129,7 +132,7 @@ module _ (healthy : Type 0) (may : ℕ → Type 0) (names : LiveNames) (inputs :
     inr (inputs.capture, accepted.capture_accepted, inr (inputs.plan, accepted.plan_accepted, says)),
   )
 
-  pub live_judged : (r : Result ⊤ RunError) → (healthy → ¬ IsErrOf r run_error.WriteFault)
+  live_judged : (r : Result ⊤ RunError) → (healthy → ¬ IsErrOf r run_error.WriteFault)
       → OnOk r (LivesWhole (live_setting inputs) may inputs.plan (live_outputs names) a c)
       → ((limit : Limit) → r ≡ Err (run_error.Limit limit)
       → LivesToLimit (live_setting inputs) inputs.plan (live_outputs names) limit a c)
@@ -156,27 +159,24 @@ module _ (healthy : Type 0) (may : ℕ → Type 0) (names : LiveNames) (inputs :
   live_judged (Err run_error.WriteFault) never whole limit = behind status.WriteFault (λ ok. never ok refl)
   live_judged (Err run_error.NoMemory) never whole limit = behind status.NoMemory tt
 
-  pub live_done : (r : Result ⊤ RunError) → run_outcome r ≡ status.Done
-      → OnOk r (LivesWhole (live_setting inputs) may inputs.plan (live_outputs names) a c) → LivesFiles may names a c
-  live_done (Ok done) e whole = (inputs, accepted, whole)
-  live_done (Err (run_error.Limit l)) e whole = absurd (cc)
-  live_done (Err run_error.WriteFault) e whole = absurd (cc)
-  live_done (Err run_error.NoMemory) e whole = absurd (cc)
+  whole : (r : Result ⊤ RunError)
+      → OnOk r (LivesWhole (live_setting inputs) may inputs.plan (live_outputs names) a c)
+      → OnOk r (LivesFiles may names a c × KeepsLivePromise names a c)
+  whole (Ok done) run =
+      let all : LivesFiles may names a c = (inputs, accepted, run) in (all, live_promise may names a c all)
+  whole (Err error) run = tt
 
-  pub live_limit : (r : Result ⊤ RunError) (l : Limit) → run_outcome r ≡ status.TooLarge l
+  pub live_ends : (r : Result ⊤ RunError) → (healthy → ¬ IsErrOf r run_error.WriteFault)
+      → OnOk r (LivesWhole (live_setting inputs) may inputs.plan (live_outputs names) a c)
       → ((limit : Limit) → r ≡ Err (run_error.Limit limit)
-      → LivesToLimit (live_setting inputs) inputs.plan (live_outputs names) limit a c) → LivesLimit names l a c
-  live_limit (Ok done) l e limit = absurd (cc)
-  live_limit (Err (run_error.Limit k)) l e limit =
-      let same : k ≡ l = cc in
-      inr (
-        inputs,
-        accepted,
-        subst (λ (m : Limit).
-            LivesToLimit (live_setting inputs) inputs.plan (live_outputs names) m a c) same (limit k refl),
-      )
-  live_limit (Err run_error.WriteFault) l e limit = absurd (cc)
-  live_limit (Err run_error.NoMemory) l e limit = absurd (cc)
+      → LivesToLimit (live_setting inputs) inputs.plan (live_outputs names) limit a c)
+      → LivesInOrder (live_setting inputs) inputs.plan (live_outputs names) a c
+      → Ends (live_meaning may names) healthy (run_outcome r) a c
+  live_ends r never run limit begun = record {
+    says = run_says (live_meaning may names) a c r (whole r run) (λ l is. inr (inputs, accepted, limit l is));
+    in_order = inr (inputs, accepted, begun);
+    judged = live_judged r never run limit;
+  }
 
 -- what a refused input says
 pub live_refused : (healthy : Type 0) (names : LiveNames) (s : Status) (a : Shown)
@@ -253,35 +253,30 @@ not_lives None None None None None None None None None (Some h) resume names non
 not_lives None None None None None None None None None None (Some r) names none is = absurd (cc)
 not_lives None None None None None None None None None None None names none is = absurd (cc)
 
--- What the other commands leave does not hang on the clock.
-leave_any : (may : ℕ → Type 0) (run : Option RunNames) (live : Option LiveNames) (make : Option MakeNames)
-    (play : Option PlayNames) (check : Option CheckNames) (drill : Option DrillNames) (trace : Option TraceNames)
-    (picture : Option PictureNames) (chain : Option ChainNames) (hand : Option HandNames)
-    (resume : Option ResumeNames) (old new : Shown) → live ≡ None
-    → IfSome (one_of run live make play check drill trace picture chain hand resume)
-    (λ command. Leaves (λ t. ⊥) command old new)
-    → IfSome (one_of run live make play check drill trace picture chain hand resume)
-    (λ command. Leaves may command old new)
-leave_any may (Some r) live make play check drill trace picture chain hand resume old new none h = h
-leave_any may None (Some l) make play check drill trace picture chain hand resume old new none h = absurd (cc)
-leave_any may None None (Some m) play check drill trace picture chain hand resume old new none h = h
-leave_any may None None None (Some p) check drill trace picture chain hand resume old new none h = h
-leave_any may None None None None (Some c) drill trace picture chain hand resume old new none h = h
-leave_any may None None None None None (Some d) trace picture chain hand resume old new none h = h
-leave_any may None None None None None None (Some t) picture chain hand resume old new none h = h
-leave_any may None None None None None None None (Some v) chain hand resume old new none h = h
-leave_any may None None None None None None None None (Some n) hand resume old new none h = h
-leave_any may None None None None None None None None None (Some n) resume old new none h = h
-leave_any may None None None None None None None None None None (Some n) old new none h = h
-leave_any may None None None None None None None None None None None old new none h = h
-
-pub leaves_any : (may : ℕ → Type 0) (words : List (List ℕ)) (old new : Shown) → live_names words ≡ None
-    → IfAsks words (λ command. Leaves (λ t. ⊥) command old new)
-    → IfAsks words (λ command. Leaves may command old new)
-leaves_any may words old new none h =
-    leave_any may (run_names words) (live_names words) (make_names words) (play_names words) (check_names words)
+-- What the other commands mean does not hang on the clock.
+pub mean_any : (Holds : CommandMeaning → Type 0) (may : ℕ → Type 0) (words : List (List ℕ)) → live_names words ≡ None
+    → IfAsks words (λ command. Holds (meaning_of (λ t. ⊥) command))
+    → IfAsks words (λ command. Holds (meaning_of may command))
+mean_any Holds may words none = go (asked words) (λ names.
+    not_lives (run_names words) (live_names words) (make_names words) (play_names words) (check_names words)
     (drill_names words) (trace_names words) (picture_names words) (chain_names words) (hand_names words)
-    (resume_names words) old new none h
+    (resume_names words) names none)
+  where
+    go : (some : Option Asked) → ((names : LiveNames) → some ≡ Some (Lives names) → ⊥)
+        → IfSome some (λ command. Holds (meaning_of (λ t. ⊥) command))
+        → IfSome some (λ command. Holds (meaning_of may command))
+    go None other h = h
+    go (Some (Runs names)) other h = h
+    go (Some (Lives names)) other h = absurd (other names refl)
+    go (Some (Makes names)) other h = h
+    go (Some (Plays names)) other h = h
+    go (Some (Checks names)) other h = h
+    go (Some (Drills names)) other h = h
+    go (Some (Traces names)) other h = h
+    go (Some (Draws names)) other h = h
+    go (Some (Chains names)) other h = h
+    go (Some (Hands names)) other h = h
+    go (Some (Resumes names)) other h = h
 
 -- where all inputs are accepted, in a healthy world
 pub live_completes : (healthy : Type 0) (names : LiveNames) (shown : Shown) → healthy → (inputs : LiveInputs)
@@ -306,20 +301,10 @@ live_completes healthy names shown ok inputs a s h =
     go (inl none) = inl (inr none)
     go (inr says) = on s says
 
--- The stage at which a status of `live` or `hand` comes.
-
-pub at_inputs : (s : Status) → written_stage s ≡ AtInputs → stage_of s ≡ AtInputs
-at_inputs status.Done e = e
-at_inputs (status.Refuted refutation) e = e
-at_inputs status.BadWords e = e
-at_inputs status.ReadFault e = e
-at_inputs status.WriteFault e = e
-at_inputs status.NoMemory e = e
-at_inputs (status.BadInput fault) e = e
-at_inputs (status.TooLarge limit) e = absurd (cc)
-at_inputs (status.Unready unready) e = e
-
-pub no_limit_at_inputs : (s : Status) → written_stage s ≡ AtInputs → (limit : Limit) → s ≡ status.TooLarge limit → ⊥
-no_limit_at_inputs s e limit is =
-    let other : AtInputs ≡ AtAnyTime = sym e ∙ ap written_stage is in
-    cc
+pub live_usual : (may : ℕ → Type 0) (names : LiveNames) → IsUsual (live_meaning may names)
+live_usual may names = record {
+  few = search rules;
+  begins = λ old new same. inl same;
+  others = live_others names;
+  completes = λ healthy shown ok accepts. live_completes healthy names shown ok accepts.0 accepts.1;
+}

@@ -1,5 +1,5 @@
 -- What the status of `picture` says, and what it leaves: from before its inputs were read.
-use Rattle.std.proofs.Common.{◌≡◌, ℕ, List, ◌++◌, refl, sym, ap, ◌∙◌, subst, inl, inr, Result, Ok, Err}
+use Rattle.std.proofs.Common.{◌≡◌, ℕ, List, ◌++◌, refl, sym, ap, ◌∙◌, inl, inr, Result, Ok, Err, rules}
 use Rattle.std.specs.Prelude.{⊤, IsErrOf, OnOk}
 use Rattle.plain_text.specs.declared.limit.Limit.{Limit}
 use Rattle.plain_text.specs.declared.packet.Packet.{Packet}
@@ -20,15 +20,17 @@ use Rattle.live_writes.proofs.ScriptSteps.{spare_cut, spared}
 use Rattle.noted_runs.specs.Picture.{HasBegunPicture, HasPictured, HasStopped, picture_writes}
 use Rattle.noted_runs.proofs.PicturePerformed.{noted_performs}
 use Rattle.job_commands.specs.declared.inputs.Inputs.{Inputs}
-use Rattle.job_commands.specs.declared.status.Status.{Status}
-use Rattle.job_commands.specs.declared.status.Status.TheVariants as status
 use Rattle.job_commands.specs.Judging.{Judges}
 use Rattle.job_commands.specs.Run.{setting_for}
-use Rattle.job_commands.specs.Status.{AtInputs, AtOutputs, run_outcome, stage_of, stage_of_limit}
+use Rattle.job_commands.specs.Status.{run_outcome}
 use Rattle.job_commands.specs.Words.{PictureNames, pictured_run}
 use Rattle.job_commands.proofs.Outcomes.{begun_writes_since}
 use Rattle.job_commands.proofs.RunLimits.{stops_are}
-use Rattle.job_top.specs.Picture.{AcceptsPictureInputs, DrawsInOrder, DrawsToLimit, DrawsWhole, KeepsPictureNames}
+use Rattle.job_top.specs.Picture.{AcceptsPictureInputs, DrawsInOrder, DrawsWhole, KeepsPictureNames}
+use Rattle.job_commands.specs.Meanings.{PromisesNothing}
+use Rattle.job_commands.proofs.OneVerdict.{run_completes}
+use Rattle.job_commands.proofs.Usual.{Ends, IsUsual, run_says, stops_late}
+use Rattle.job_top.specs.Picture.{picture_meaning}
 
 -- The files are as they were when the inputs had been read.
 module _ (a b c : Shown) (keeps : KeepsOutputs a b) where
@@ -100,7 +102,7 @@ module _ (healthy : Type 0) (names : PictureNames) (inputs : Inputs) (a c : Show
   Stops r =
       (limit : Limit) → r ≡ Err (run_error.Limit limit) → HasStopped (setting_for inputs) inputs.events limit a c
 
-  pub picture_judged : (r : Result ⊤ RunError) → (healthy → ¬ IsErrOf r run_error.WriteFault) → Drawn r → Stops r
+  picture_judged : (r : Result ⊤ RunError) → (healthy → ¬ IsErrOf r run_error.WriteFault) → Drawn r → Stops r
       → Judges healthy (pictured_run names) (run_outcome r) a
   picture_judged (Ok done) never whole limit =
       let l = leaves_some names.box_file (setting_for inputs) inputs.events names.picture a c whole in
@@ -110,34 +112,19 @@ module _ (healthy : Type 0) (names : PictureNames) (inputs : Inputs) (a c : Show
   picture_judged (Err run_error.WriteFault) never whole limit = (λ ok. never ok refl, inputs, accepted)
   picture_judged (Err run_error.NoMemory) never whole limit = tt
 
-  pub picture_done : (r : Result ⊤ RunError) → run_outcome r ≡ status.Done → Drawn r → DrawsWhole names a c
-  picture_done (Ok done) e whole = (inputs, accepted, whole)
-  picture_done (Err (run_error.Limit l)) e whole = absurd (cc)
-  picture_done (Err run_error.WriteFault) e whole = absurd (cc)
-  picture_done (Err run_error.NoMemory) e whole = absurd (cc)
+  whole : (r : Result ⊤ RunError) → Drawn r → OnOk r (DrawsWhole names a c × PromisesNothing a c)
+  whole (Ok done) run = let all : DrawsWhole names a c = (inputs, accepted, run) in (all, tt)
+  whole (Err error) run = tt
 
-  pub picture_limit : (r : Result ⊤ RunError) (l : Limit) → run_outcome r ≡ status.TooLarge l → Stops r
-      → DrawsToLimit names l a c
-  picture_limit (Ok done) l e limit = absurd (cc)
-  picture_limit (Err (run_error.Limit k)) l e limit =
-      let same : k ≡ l = cc in (
-        inputs,
-        accepted,
-        subst (λ (m : Limit). HasStopped (setting_for inputs) inputs.events m a c) same (limit k refl),
-      )
-  picture_limit (Err run_error.WriteFault) l e limit = absurd (cc)
-  picture_limit (Err run_error.NoMemory) l e limit = absurd (cc)
-
-  -- it never ends at its inputs
-  pub picture_not_at_inputs : (r : Result ⊤ RunError) → stage_of (run_outcome r) ≡ AtInputs → Stops r → ⊥
-  picture_not_at_inputs (Ok done) e limit = cc
-  picture_not_at_inputs (Err (run_error.Limit l)) e limit =
-      let at = (limit l refl).stops in
-      let stage : stage_of_limit l ≡ AtOutputs =
-      stops_are (setting_for inputs) at.there at.event l at.world at.stops in
-      cc
-  picture_not_at_inputs (Err run_error.WriteFault) e limit = cc
-  picture_not_at_inputs (Err run_error.NoMemory) e limit = cc
+  pub picture_ends : (r : Result ⊤ RunError) → (healthy → ¬ IsErrOf r run_error.WriteFault) → Drawn r → Stops r
+      → HasBegunPicture names.box_file (setting_for inputs) inputs.events names.picture a c
+      → Ends (picture_meaning names) healthy (run_outcome r) a c
+  picture_ends r never run limit begun = record {
+    says = run_says (picture_meaning names) a c r (whole r run) (λ l is.
+        let h = limit l is in stops_late l a c _ (stops_are (setting_for inputs) h.stops.there h.stops.event l h.stops.world h.stops.stops) (inputs, accepted, h));
+    in_order = inr (inputs, accepted, begun);
+    judged = picture_judged r never run limit;
+  }
 
 -- Other names
 
@@ -150,3 +137,11 @@ picture_others names a b (inr (inputs, accepted, inr (w, text, pictures, begun))
     begun.written.names name
     ∙ spared name begun.done (a.names name) (spare_cut name begun.done
     (picture_writes names.picture text (done_line w)) spare begun.cut)
+
+pub picture_usual : (names : PictureNames) → IsUsual (picture_meaning names)
+picture_usual names = record {
+  few = search rules;
+  begins = λ old new same. inl same;
+  others = picture_others names;
+  completes = λ healthy shown. run_completes healthy (pictured_run names) shown;
+}

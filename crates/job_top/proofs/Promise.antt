@@ -22,9 +22,10 @@ use Rattle.drill_report.specs.Events.{drill_events}
 use Rattle.live_command.proofs.ScriptsTold.{live_script}
 use Rattle.job_commands.specs.Run.{RunsWhole, outputs_of, setting_for}
 use Rattle.job_commands.specs.Words.{RunNames, LiveNames, DrillNames}
-use Rattle.job_top.specs.Drill.{DrillsWhole, drill_outputs, drill_setting}
-use Rattle.job_top.specs.Headline.{KeepsPromise, KeepsDrillPromise, KeepsLivePromise, KeepsRunPromise}
-use Rattle.job_top.specs.Live.{LivesFiles, live_outputs, live_setting}
+use Rattle.job_top.specs.Drill.{DrillsWhole, KeepsDrillPromise, drill_outputs, drill_setting}
+use Rattle.job_top.specs.Headline.{KeepsPromise}
+use Rattle.job_top.specs.Live.{KeepsLivePromise, LivesFiles, live_outputs, live_setting}
+use Rattle.job_top.specs.Run.{KeepsRunPromise}
 
 -- what waits in a sound world waits for a named entry
 pub waits_named : {V : Type 0} (s : Setting V) (w : SystemWorld V) → Sound s w → (o : Sent) → IsAmong o w.waiting

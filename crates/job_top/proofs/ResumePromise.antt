@@ -14,7 +14,8 @@ use Rattle.run_writes.proofs.ScriptAnswers.{answers_perform, answers_release_mor
 use Rattle.hand_command.specs.Resume.{HasResumed}
 use Rattle.job_commands.specs.HandWords.{ResumeNames}
 use Rattle.job_commands.specs.Resume.{resumed_setting}
-use Rattle.job_top.specs.Headline.{KeepsPromiseFrom, KeepsResumePromise}
+use Rattle.job_top.specs.Headline.{KeepsPromiseFrom}
+use Rattle.job_top.specs.Resume.{KeepsResumePromise}
 use Rattle.job_top.specs.Resume.{ResumesWhole, resume_outputs}
 use Rattle.job_top.proofs.Promise.{waits_named}
 

@@ -1,6 +1,6 @@
 -- What the status of `resume` says, and what it leaves: from before its inputs were read.
-use Rattle.std.proofs.Common.{◌≡◌, ◌⊎◌, ℕ, List, refl, sym, ap, ◌∙◌, subst, inl, inr, Result, Ok, Err}
-use Rattle.std.specs.Prelude.{⊤, IsErrOf}
+use Rattle.std.proofs.Common.{◌≡◌, ◌⊎◌, ℕ, List, refl, sym, ap, ◌∙◌, subst, inl, inr, Result, Ok, Err, rules}
+use Rattle.std.specs.Prelude.{⊤, IsErrOf, OnOk}
 use Rattle.plain_text.specs.declared.limit.Limit.{Limit}
 use Rattle.box_conf.specs.Kinds.{meaning_of}
 use Rattle.world_io.specs.World.{Shown}
@@ -17,7 +17,7 @@ use Rattle.run_writes.proofs.ScriptAnswers.{answers_perform}
 use Rattle.hand_command.specs.FromRunCommand.{RunsFrom, StoppedThere}
 use Rattle.hand_command.proofs.FromRunCommand.{runs_begun}
 use Rattle.hand_command.specs.Hand.{IsHandedOver}
-use Rattle.hand_command.specs.Resume.{HasHalted, HasResumed}
+use Rattle.hand_command.specs.Resume.{HasResumed}
 use Rattle.hand_command.proofs.Resuming.{resumed_limit, resumed_whole}
 use Rattle.input_files.specs.declared.image_file.ImageFile.{ImageFile}
 use Rattle.input_files.specs.Answers.{SaysScript}
@@ -32,20 +32,24 @@ use Rattle.job_commands.specs.HandWords.{ResumeNames}
 use Rattle.job_commands.specs.Resume.{AcceptsResumeInputs, AcceptsSealed}
 use Rattle.job_commands.specs.Resume.{JudgesOneScript, JudgesResumeSource}
 use Rattle.job_commands.specs.Resume.{resumed_setting}
-use Rattle.job_commands.specs.Status.{AtInputs, AtOutputs, Completes, EndsReading, run_outcome, stage_of}
+use Rattle.job_commands.specs.Status.{AtOutputs, Completes, EndsReading, run_outcome}
 use Rattle.job_commands.specs.Status.{stage_of_limit}
-use Rattle.job_commands.proofs.Outcomes.{begun_writes_since, not_of_run, written_since}
+use Rattle.job_commands.proofs.Outcomes.{begun_writes_since, written_since}
 use Rattle.job_commands.proofs.RunLimits.{stops_are}
-use Rattle.job_commands.proofs.Stages.{quiet_done}
 use Rattle.job_commands.proofs.ResumeFiles.{resume_accepted, resume_image_refused, resume_no_memory, resume_pass}
 use Rattle.job_commands.proofs.ResumeFiles.{resume_script_refused, resume_source_refused}
 use Rattle.job_commands.proofs.Turns.{judged_since}
 use Rattle.job_top.specs.Resume as resume
 use Rattle.job_top.specs.Resume.{AreAcceptedForResume, EndsFrom, GoesOnBy, GoesOnFrom, HasFault, HasNoMemory, IsRefused}
 use Rattle.job_top.specs.Resume.{IsRefusedSo}
-use Rattle.job_top.specs.Resume.{JudgesResume, KeepsResumeNames, OfEachWorld, ResumesInOrder, ResumesToLimit}
+use Rattle.job_top.specs.Resume.{JudgesResume, KeepsResumeNames, ResumesInOrder, ResumesToLimit}
 use Rattle.job_top.specs.Resume.{ResumesWhole, Runs, SaysOfResume, StopsFrom, resume_outputs}
 use Rattle.job_top.proofs.SparedNames.{spare_from}
+use Rattle.job_commands.specs.Answers.{SaysOf}
+use Rattle.job_commands.specs.Meanings.{StopsBy}
+use Rattle.job_commands.proofs.Usual.{Ends, IsUsual, refused_says, run_says, stops_early, stops_late}
+use Rattle.job_top.specs.Resume.{KeepsResumePromise, resume_meaning}
+use Rattle.job_top.proofs.ResumePromise.{resume_promise}
 
 -- The files are as they were when the first inputs had been read.
 module _ (a b c : Shown) (keeps : KeepsOutputs a b) where
@@ -142,6 +146,50 @@ module _ {V : Type 0} (s : Setting V) (w : SystemWorld V) (names : OutputNames) 
         → stage_of_limit limit ≡ AtOutputs
     stops_stage limit h = stops_are s h.until.there h.until.event limit h.until.world h.until.stops
 
+-- In a healthy world a run that goes on, whose inputs are accepted and which passes no limit, is done, or memory ran
+-- out.
+pub resume_completes : (healthy : Type 0) (names : ResumeNames) (shown : Shown) → healthy
+    → AreAcceptedForResume names shown → (st : Status) → JudgesResume healthy names st shown → Completes st
+resume_completes healthy names shown ok (source, events, all, within) st h =
+    go (resume_pass healthy names shown (SaysOfResume healthy) ok source events all st h)
+  where
+    on : (st : Status) → SaysOfResume healthy source events st → Completes st
+    on status.Done says = inl refl
+    on (status.Refuted refutation) says = absurd says
+    on status.BadWords says = absurd says
+    on status.ReadFault says = absurd says
+    on status.WriteFault says = absurd (says ok)
+    on status.NoMemory says = inr refl
+    on (status.BadInput fault) says = absurd says
+    on (status.TooLarge limit) says = absurd (within limit says)
+    on (status.Unready unready) says = absurd says
+
+    go : (st ≡ status.NoMemory) ⊎ SaysOfResume healthy source events st → Completes st
+    go (inl none) = inr none
+    go (inr says) = on st says
+
+-- Other names
+
+pub resume_others : (names : ResumeNames) (a b : Shown) → ResumesInOrder names a b → KeepsResumeNames names a b
+resume_others names a b (inl kept) name one two = ap (λ f. f name) kept.names
+resume_others names a b (inr (source, events, all, ((w, handed), each))) name one two = go (each w handed)
+  where
+    go : HasBegunFrom (resumed_setting source) (at_world w) (resume_outputs names) events a b
+        → b.names name ≡ a.names name
+    go (writes, is, begun) =
+        begun.written.names name
+        ∙ spared name begun.done (a.names name) (spare_cut name begun.done writes
+        (spare_from (resume_outputs names) name one two (resumed_setting source) (at_world w) events writes is)
+        begun.cut)
+
+pub resume_usual : (names : ResumeNames) → IsUsual (resume_meaning names)
+resume_usual names = record {
+  few = search rules;
+  begins = λ old new same. inl same;
+  others = resume_others names;
+  completes = λ healthy shown. resume_completes healthy names shown;
+}
+
 -- The status of the run, where the first inputs are accepted.
 
 module _ (healthy : Type 0) (names : ResumeNames) (source : ResumeSource) (a c : Shown)
@@ -182,45 +230,40 @@ module _ (healthy : Type 0) (names : ResumeNames) (source : ResumeSource) (a c :
     says (Err run_error.WriteFault) never runs = λ ok. never ok refl
     says (Err run_error.NoMemory) never runs = tt
 
-    whole : (r : Result ⊤ RunError) → run_outcome r ≡ status.Done → RunsSo r
-        → OfEachWorld OneSetting TheImage (λ w. HasResumed OneSetting w (resume_outputs names) events a c)
-    whole (Ok done) e runs = (
-      (first, handed),
-      λ w h. resumed_whole OneSetting w (resume_outputs names) events a c apart (Ok done) (runs w h),
-    )
-    whole (Err (run_error.Limit l)) e runs = absurd (cc)
-    whole (Err run_error.WriteFault) e runs = absurd (cc)
-    whole (Err run_error.NoMemory) e runs = absurd (cc)
+    whole : (r : Result ⊤ RunError) → AcceptsResumeInputs names source events a → RunsSo r
+        → OnOk r (ResumesWhole names a c × KeepsResumePromise names a c)
+    whole (Ok done) accepts runs =
+        let all : ResumesWhole names a c = (
+          source,
+          events,
+          accepts,
+          (
+            (first, handed),
+            λ w h. resumed_whole OneSetting w (resume_outputs names) events a c apart (Ok done) (runs w h),
+          ),
+        ) in
+        (all, resume_promise names a c all)
+    whole (Err error) accepts runs = tt
 
-    halts : (r : Result ⊤ RunError) (l : Limit) → run_outcome r ≡ status.TooLarge l → RunsSo r
-        → OfEachWorld OneSetting TheImage (λ w. HasHalted OneSetting w (resume_outputs names) events l a c)
-    halts (Ok done) l e runs = absurd (cc)
-    halts (Err (run_error.Limit k)) l e runs =
-        let same : k ≡ l = cc in
-        subst
-        (λ (m : Limit). OfEachWorld OneSetting TheImage
-        (λ w. HasHalted OneSetting w (resume_outputs names) events m a c))
-        same (
-          (first, handed),
-          λ w h. resumed_limit OneSetting w (resume_outputs names) events a c apart (Err (run_error.Limit k)) k
-              (runs w h) refl,
+    halts : (r : Result ⊤ RunError) → AcceptsResumeInputs names source events a → RunsSo r → (l : Limit)
+        → r ≡ Err (run_error.Limit l) → StopsBy l a c (ResumesToLimit names l a c)
+    halts r accepts runs l e =
+        let halted : RunsSo (Err (run_error.Limit l)) = subst (λ (x : Result ⊤ RunError). RunsSo x) e runs in
+        stops_late l a c _
+        (stops_stage OneSetting first (resume_outputs names) events a c l (halted first handed)) (
+          source,
+          events,
+          accepts,
+          (
+            (first, handed),
+            λ w h. resumed_limit OneSetting w (resume_outputs names) events a c apart (Err (run_error.Limit l)) l
+                (halted w h) refl,
+          ),
         )
-    halts (Err run_error.WriteFault) l e runs = absurd (cc)
-    halts (Err run_error.NoMemory) l e runs = absurd (cc)
-
-    -- a run never ends at its inputs
-    not_at_inputs : (r : Result ⊤ RunError) → stage_of (run_outcome r) ≡ AtInputs → RunsSo r → ⊥
-    not_at_inputs (Ok done) e runs = cc
-    not_at_inputs (Err (run_error.Limit l)) e runs =
-        let stage : stage_of_limit l ≡ AtOutputs =
-        stops_stage OneSetting first (resume_outputs names) events a c l (runs first handed) in
-        cc
-    not_at_inputs (Err run_error.WriteFault) e runs = cc
-    not_at_inputs (Err run_error.NoMemory) e runs = cc
 
   -- What each status says
 
-  pub resume_judged : (st : Status) → GoesOnFrom healthy OneSetting source.image names st a c
+  resume_judged : (st : Status) → GoesOnFrom healthy OneSetting source.image names st a c
       → JudgesResume healthy names st a
   resume_judged st (HasNoMemory is kept) =
       subst (λ (x : Status). JudgesResume healthy names x a) (sym is)
@@ -236,25 +279,22 @@ module _ (healthy : Type 0) (names : ResumeNames) (source : ResumeSource) (a c :
       resume_accepted healthy names a (SaysOfResume healthy) source events st (all_accepted fine events script)
       (subst (λ (x : Status). SaysOfResume healthy source events x) (sym is) (says events w handed r never runs))
 
-  pub resume_done : (st : Status) → GoesOnFrom healthy OneSetting source.image names st a c → st ≡ status.Done
-      → ResumesWhole names a c
-  resume_done st (HasNoMemory is kept) e = absurd (cc)
-  resume_done st (HasFault error is fault at status_is kept) e = absurd (cc)
-  resume_done st (resume.GoesOn fine w handed (IsRefused judged stage quiet kept)) e =
-      absurd (quiet_done st e quiet)
-  resume_done st (resume.GoesOn fine w handed (Runs events script r is never runs)) e =
-      (source, events, all_accepted fine events script, whole events w handed r (sym is ∙ e) runs)
+  resume_says : (st : Status) → GoesOnFrom healthy OneSetting source.image names st a c
+      → SaysOf (resume_meaning names) st a c
+  resume_says st (HasNoMemory is kept) =
+      subst (λ (x : Status). SaysOf (resume_meaning names) x a c) (sym is) tt
+  resume_says st (HasFault error is fault at status_is kept) =
+      subst (λ (x : Status). SaysOf (resume_meaning names) x a c) (sym status_is) kept
+  resume_says st (resume.GoesOn fine w handed (IsRefused judged stage quiet kept)) =
+      refused_says (resume_meaning names) (resume_usual names) st a c quiet stage
+      (λ limit large at same. stops_early limit a c _ at same) kept
+  resume_says st (resume.GoesOn fine w handed (Runs events script r is never runs)) =
+      let accepts = all_accepted fine events script in
+      subst (λ (x : Status). SaysOf (resume_meaning names) x a c) (sym is)
+      (run_says (resume_meaning names) a c r (whole events w handed r accepts runs)
+      (halts events w handed r accepts runs))
 
-  pub resume_limit : (st : Status) → GoesOnFrom healthy OneSetting source.image names st a c → (l : Limit)
-      → st ≡ status.TooLarge l → stage_of_limit l ≡ AtOutputs → ResumesToLimit names l a c
-  resume_limit st (HasNoMemory is kept) l e at-end = absurd (cc)
-  resume_limit st (HasFault error is fault at status_is kept) l e at-end = absurd (cc)
-  resume_limit st (resume.GoesOn fine w handed (IsRefused judged stage quiet kept)) l e at-end =
-      absurd (not_of_run st l e at-end stage)
-  resume_limit st (resume.GoesOn fine w handed (Runs events script r is never runs)) l e at-end =
-      (source, events, all_accepted fine events script, halts events w handed r l (sym is ∙ e) runs)
-
-  pub resume_order : (st : Status) → GoesOnFrom healthy OneSetting source.image names st a c
+  resume_order : (st : Status) → GoesOnFrom healthy OneSetting source.image names st a c
       → ResumesInOrder names a c
   resume_order st (HasNoMemory is kept) = inl kept
   resume_order st (HasFault error is fault at status_is kept) = inl kept
@@ -269,51 +309,12 @@ module _ (healthy : Type 0) (names : ResumeNames) (source : ResumeSource) (a c :
     ),
   )
 
-  pub resume_keeps : (st : Status) → GoesOnFrom healthy OneSetting source.image names st a c → stage_of st ≡ AtInputs
-      → KeepsShown a c
-  resume_keeps st (HasNoMemory is kept) e = kept
-  resume_keeps st (HasFault error is fault at status_is kept) e = kept
-  resume_keeps st (resume.GoesOn fine w handed (IsRefused judged stage quiet kept)) e = kept
-  resume_keeps st (resume.GoesOn fine w handed (Runs events script r is never runs)) e =
-      absurd (not_at_inputs events w handed r (ap stage_of (sym is) ∙ e) runs)
+  pub resume_ends : (st : Status) → GoesOnFrom healthy OneSetting source.image names st a c
+      → Ends (resume_meaning names) healthy st a c
+  resume_ends st went =
+      record { says = resume_says st went; in_order = resume_order st went; judged = resume_judged st went }
 
 -- what a refused input says
 pub resume_refused : (healthy : Type 0) (names : ResumeNames) (st : Status) (a : Shown)
     → JudgesResumeSource healthy names (Err st) a → JudgesResume healthy names st a
 resume_refused healthy names st a h = resume_source_refused healthy names a (SaysOfResume healthy) st h
-
--- In a healthy world a run that goes on, whose inputs are accepted and which passes no limit, is done, or memory ran
--- out.
-pub resume_completes : (healthy : Type 0) (names : ResumeNames) (shown : Shown) → healthy
-    → AreAcceptedForResume names shown → (st : Status) → JudgesResume healthy names st shown → Completes st
-resume_completes healthy names shown ok (source, events, all, within) st h =
-    go (resume_pass healthy names shown (SaysOfResume healthy) ok source events all st h)
-  where
-    on : (st : Status) → SaysOfResume healthy source events st → Completes st
-    on status.Done says = inl refl
-    on (status.Refuted refutation) says = absurd says
-    on status.BadWords says = absurd says
-    on status.ReadFault says = absurd says
-    on status.WriteFault says = absurd (says ok)
-    on status.NoMemory says = inr refl
-    on (status.BadInput fault) says = absurd says
-    on (status.TooLarge limit) says = absurd (within limit says)
-    on (status.Unready unready) says = absurd says
-
-    go : (st ≡ status.NoMemory) ⊎ SaysOfResume healthy source events st → Completes st
-    go (inl none) = inr none
-    go (inr says) = on st says
-
--- Other names
-
-pub resume_others : (names : ResumeNames) (a b : Shown) → ResumesInOrder names a b → KeepsResumeNames names a b
-resume_others names a b (inl kept) name one two = ap (λ f. f name) kept.names
-resume_others names a b (inr (source, events, all, ((w, handed), each))) name one two = go (each w handed)
-  where
-    go : HasBegunFrom (resumed_setting source) (at_world w) (resume_outputs names) events a b
-        → b.names name ≡ a.names name
-    go (writes, is, begun) =
-        begun.written.names name
-        ∙ spared name begun.done (a.names name) (spare_cut name begun.done writes
-        (spare_from (resume_outputs names) name one two (resumed_setting source) (at_world w) events writes is)
-        begun.cut)

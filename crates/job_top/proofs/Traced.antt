@@ -1,6 +1,6 @@
 -- What the status of `trace` says, and what it leaves: from before its inputs were read.
 use Rattle.std.proofs.Common.{◌≡◌, ℕ, List, [], ◌∷◌, ◌++◌, Option, refl, sym, ap, ◌∙◌, subst, inl, inr, Result, Ok}
-use Rattle.std.proofs.Common.{Err, append_assoc}
+use Rattle.std.proofs.Common.{Err, append_assoc, rules}
 use Rattle.std.specs.Prelude.{⊤, IsErrOf, OnOk}
 use Rattle.plain_text.specs.declared.limit.Limit.{Limit}
 use Rattle.world_io.specs.World.{Shown}
@@ -22,15 +22,17 @@ use Rattle.job_commands.specs.declared.status.Status.{Status}
 use Rattle.job_commands.specs.declared.status.Status.TheVariants as status
 use Rattle.job_commands.specs.Judging.{Judges}
 use Rattle.job_commands.specs.Run.{StopsRun, setting_for}
-use Rattle.job_commands.specs.Status.{AtInputs, AtOutputs, ComesAt, Completes, EndsReading, run_outcome, stage_of}
-use Rattle.job_commands.specs.Status.{stage_of_limit}
+use Rattle.job_commands.specs.Status.{AtInputs, ComesAt, Completes, EndsReading, run_outcome}
 use Rattle.job_commands.specs.Words.{TraceNames, traced_run}
 use Rattle.job_commands.proofs.OneVerdict.{inputs_one, run_completes}
 use Rattle.job_commands.proofs.Outcomes.{begun_writes_since, not_of_run}
 use Rattle.job_commands.proofs.RunLimits.{stops_are}
 use Rattle.job_top.specs.Trace.{AcceptsTraceInputs, AreAcceptedForTrace, JudgesTrace, KeepsTraceNames, StopsTrace}
-use Rattle.job_top.specs.Trace.{TracesInOrder, TracesToLimit, TracesWhole}
+use Rattle.job_top.specs.Trace.{TracesInOrder, TracesWhole}
 use Rattle.box_conf.specs.Kinds.{drop_register}
+use Rattle.job_commands.specs.Meanings.{PromisesNothing}
+use Rattle.job_commands.proofs.Usual.{Ends, IsUsual, run_says, stops_late}
+use Rattle.job_top.specs.Trace.{trace_meaning}
 
 -- The files are as they were when the inputs had been read.
 module _ (a b c : Shown) (keeps : KeepsOutputs a b) where
@@ -78,7 +80,7 @@ module _ (healthy : Type 0) (names : TraceNames) (inputs : Inputs) (a c : Shown)
   Stops r =
       (limit : Limit) → r ≡ Err (run_error.Limit limit) → HasStopped (setting_for inputs) inputs.events limit a c
 
-  pub trace_judged : (r : Result ⊤ RunError) → (healthy → ¬ IsErrOf r run_error.WriteFault) → Leaves r → Stops r
+  trace_judged : (r : Result ⊤ RunError) → (healthy → ¬ IsErrOf r run_error.WriteFault) → Leaves r → Stops r
       → JudgesTrace healthy names (run_outcome r) a
   trace_judged (Ok done) never whole limit = (inputs, accepted, (whole.world, whole.rows, whole.traces))
   trace_judged (Err (run_error.Limit l)) never whole limit =
@@ -86,34 +88,19 @@ module _ (healthy : Type 0) (names : TraceNames) (inputs : Inputs) (a c : Shown)
   trace_judged (Err run_error.WriteFault) never whole limit = (λ ok. never ok refl, inputs, accepted)
   trace_judged (Err run_error.NoMemory) never whole limit = tt
 
-  pub trace_done : (r : Result ⊤ RunError) → run_outcome r ≡ status.Done → Leaves r → TracesWhole names a c
-  trace_done (Ok done) e whole = (inputs, accepted, whole)
-  trace_done (Err (run_error.Limit l)) e whole = absurd (cc)
-  trace_done (Err run_error.WriteFault) e whole = absurd (cc)
-  trace_done (Err run_error.NoMemory) e whole = absurd (cc)
+  whole : (r : Result ⊤ RunError) → Leaves r → OnOk r (TracesWhole names a c × PromisesNothing a c)
+  whole (Ok done) run = let all : TracesWhole names a c = (inputs, accepted, run) in (all, tt)
+  whole (Err error) run = tt
 
-  pub trace_limit : (r : Result ⊤ RunError) (l : Limit) → run_outcome r ≡ status.TooLarge l → Stops r
-      → TracesToLimit names l a c
-  trace_limit (Ok done) l e limit = absurd (cc)
-  trace_limit (Err (run_error.Limit k)) l e limit =
-      let same : k ≡ l = cc in (
-        inputs,
-        accepted,
-        subst (λ (m : Limit). HasStopped (setting_for inputs) inputs.events m a c) same (limit k refl),
-      )
-  trace_limit (Err run_error.WriteFault) l e limit = absurd (cc)
-  trace_limit (Err run_error.NoMemory) l e limit = absurd (cc)
-
-  -- a trace never ends at its inputs
-  pub trace_not_at_inputs : (r : Result ⊤ RunError) → stage_of (run_outcome r) ≡ AtInputs → Stops r → ⊥
-  trace_not_at_inputs (Ok done) e limit = cc
-  trace_not_at_inputs (Err (run_error.Limit l)) e limit =
-      let at = (limit l refl).stops in
-      let stage : stage_of_limit l ≡ AtOutputs =
-      stops_are (setting_for inputs) at.there at.event l at.world at.stops in
-      cc
-  trace_not_at_inputs (Err run_error.WriteFault) e limit = cc
-  trace_not_at_inputs (Err run_error.NoMemory) e limit = cc
+  pub trace_ends : (r : Result ⊤ RunError) → (healthy → ¬ IsErrOf r run_error.WriteFault) → Leaves r → Stops r
+      → HasBegunTrace (drop_register inputs.conf.kind) (setting_for inputs) inputs.events names.table a c
+      → Ends (trace_meaning names) healthy (run_outcome r) a c
+  trace_ends r never run limit begun = record {
+    says = run_says (trace_meaning names) a c r (whole r run) (λ l is.
+        let h = limit l is in stops_late l a c _ (stops_are (setting_for inputs) h.stops.there h.stops.event l h.stops.world h.stops.stops) (inputs, accepted, h));
+    in_order = inr (inputs, accepted, begun);
+    judged = trace_judged r never run limit;
+  }
 
 -- what a refused input says, which is no stop of a run
 pub trace_refused : (healthy : Type 0) (names : TraceNames) (s : Status) (a : Shown) → EndsReading s
@@ -185,3 +172,11 @@ trace_others names a b (inr (inputs, accepted, inr (w, rows, traces, begun))) na
     begun.written.names name
     ∙ spared name begun.done (a.names name) (spare_cut name begun.done
     (trace_writes names.table (table_text rows) (done_line w)) spare begun.cut)
+
+pub trace_usual : (names : TraceNames) → IsUsual (trace_meaning names)
+trace_usual names = record {
+  few = search rules;
+  begins = λ old new same. inl same;
+  others = trace_others names;
+  completes = λ healthy shown. trace_completes healthy names shown;
+}

@@ -3,7 +3,7 @@
 --
 -- The files are judged in the order first box, second box, capture, script: the first that is not accepted decides the
 -- status, by its first fault, the limit that it passes, or, in a healthy world, that it is not there.
-use Rattle.std.specs.Prelude.{◌⊎◌, ℕ, false, List}
+use Rattle.std.specs.Prelude.{◌⊎◌, ℕ, List}
 use Rattle.plain_text.specs.declared.limit.Limit.{Limit}
 use Rattle.plain_text.specs.declared.packet.Packet.{Packet}
 use Rattle.plain_machine.specs.declared.plain_move.PlainMove.{PlainMove}
@@ -19,7 +19,10 @@ use Rattle.job_commands.specs.declared.chain_inputs.ChainInputs.{ChainInputs}
 use Rattle.job_commands.specs.declared.status.Status.{Status}
 use Rattle.job_commands.specs.declared.status.Status.TheVariants as status
 use Rattle.job_commands.specs.Chain.{AcceptsChainInputs, JudgesChainFiles}
-use Rattle.job_commands.specs.ChainWords.{ChainNames}
+use Rattle.job_commands.specs.ChainWords.{ChainNames, chain_inputs}
+use Rattle.job_commands.specs.Status.{Completes}
+use Rattle.chain_command.specs.Headline.{KeepsChainPromise as KeepsBothPromises}
+use Rattle.job_commands.specs.Meanings.{CommandMeaning, NeverUnready, StopsBy}
 
 -- the chain that inputs ask for
 abbrev pub chain_of : ChainInputs → ChainRun
@@ -118,3 +121,25 @@ ChainsInOrder names old new =
 -- all names but the four outputs are as they were
 abbrev pub KeepsChainNames : ChainNames → Shown → Shown → Type 0
 KeepsChainNames names old new = KeepsOthers (chain_outputs names) old new
+
+-- The promise of `chain`, however the events of its two systems are mixed: that of a system alone, of the first on the
+-- captured packets with SCHEDULE1 and MIDDLE, and of the second on the packets of MIDDLE with SCHEDULE2 and RELEASED.
+pub record KeepsChainPromise (names : ChainNames) (old new : Shown) : Type 0 where
+  pub inputs : ChainInputs
+  pub accepted : AcceptsChainInputs names inputs old
+  pub keeps : KeepsBothPromises (first_of inputs) (second_of inputs) (chain_outputs names) inputs.events new
+
+abbrev pub chain_meaning : ChainNames → CommandMeaning
+chain_meaning names = record {
+  inputs = chain_inputs names;
+  files = 8;
+  Leaves = ChainsWhole names;
+  Promises = KeepsChainPromise names;
+  StopsAt = λ limit old new. StopsBy limit old new (ChainsToLimit names limit old new);
+  LeavesUnready = NeverUnready;
+  LeavesInOrder = ChainsInOrder names;
+  KeepsNames = KeepsChainNames names;
+  Judges = λ healthy. JudgesChain healthy names;
+  Accepts = AreAcceptedForChain names;
+  CompletesAs = Completes;
+}

@@ -2,7 +2,7 @@
 --
 -- The files are judged in the order box, capture: the first that is not accepted decides the status, by its first
 -- fault, the limit that it passes, or, in a healthy world, that it is not there.
-use Rattle.std.specs.Prelude.{◌⊎◌, ℕ, Bool, true, false, List}
+use Rattle.std.specs.Prelude.{◌⊎◌, ℕ, Bool, true, false, List, length}
 use Rattle.plain_text.specs.declared.limit.Limit.{Limit}
 use Rattle.plain_text.specs.declared.packet.Packet.{Packet}
 use Rattle.plain_machine.specs.declared.plain_move.PlainMove.{PlainMove}
@@ -11,15 +11,19 @@ use Rattle.box_conf.specs.declared.kind.BoxKind.TheVariants.{Count, Monitor, Nat
 use Rattle.box_conf.specs.Kinds.{meaning_of}
 use Rattle.world_io.specs.World.{Shown}
 use Rattle.recovery_world.specs.World.{Setting}
-use Rattle.run_writes.specs.Run.{OutputNames, KeepsShown}
+use Rattle.run_writes.specs.Run.{KeepsOthers, OutputNames, KeepsShown}
+use Rattle.drill_report.specs.Events.{drill_events}
 use Rattle.noted_runs.specs.declared.drill.DrillRun.{DrillRun}
 use Rattle.noted_runs.specs.Drill.{Drills, StopsAt, HasDrilled, HasStopped, HasBegunDrill, setting_of}
 use Rattle.input_files.specs.Judging.{AcceptsBox, AcceptsCapture}
 use Rattle.job_commands.specs.declared.first_inputs.FirstInputs.{FirstInputs}
 use Rattle.job_commands.specs.declared.status.Status.{Status}
 use Rattle.job_commands.specs.declared.status.Status.TheVariants as status
+use Rattle.job_commands.specs.Meanings.{CommandMeaning, NeverUnready, StopsBy}
+use Rattle.job_commands.specs.Status.{Completes}
 use Rattle.job_commands.specs.Turns.{JudgesTwo}
-use Rattle.job_commands.specs.Words.{DrillNames}
+use Rattle.job_commands.specs.Words.{DrillNames, drill_inputs}
+use Rattle.job_top.specs.Headline.{KeepsPromise}
 
 -- both input files are accepted
 pub record AcceptsDrillInputs (names : DrillNames) (inputs : FirstInputs) (shown : Shown) : Type 0 where
@@ -112,3 +116,26 @@ DrillsInOrder names old new =
     × AcceptsDrillInputs names inputs old
     × HasBegunDrill (drill_setting names inputs) names.every (has_drop_table inputs.conf.kind) (drill_outputs names)
     old new)
+
+-- The promise of `drill`, for its events: snapshots, crashes and recoveries, and then all is settled.
+pub record KeepsDrillPromise (names : DrillNames) (old new : Shown) : Type 0 where
+  pub inputs : FirstInputs
+  pub accepted : AcceptsDrillInputs names inputs old
+  pub keeps :
+      KeepsPromise (drill_setting names inputs) (drill_outputs names)
+      (drill_events names.every (length inputs.capture.packets)) new
+
+abbrev pub drill_meaning : DrillNames → CommandMeaning
+drill_meaning names = record {
+  inputs = drill_inputs names;
+  files = 4;
+  Leaves = DrillsWhole names;
+  Promises = KeepsDrillPromise names;
+  StopsAt = λ limit old new. StopsBy limit old new (DrillsToLimit names limit old new);
+  LeavesUnready = NeverUnready;
+  LeavesInOrder = DrillsInOrder names;
+  KeepsNames = KeepsOthers (drill_outputs names);
+  Judges = λ healthy. JudgesDrill healthy names;
+  Accepts = AreAcceptedForDrill names;
+  CompletesAs = Completes;
+}

@@ -1,6 +1,6 @@
 -- What the command `hand` does: a run of the script that the inputs ask for, behind which the system is handed over,
 -- where it is ready.
-use Rattle.std.specs.Prelude.{◌⊎◌, ℕ, List, ◌++◌, Result, Ok, Err}
+use Rattle.std.specs.Prelude.{◌≡◌, ◌⊎◌, ℕ, List, ◌++◌, Result, Ok, Err}
 use Rattle.plain_text.specs.declared.limit.Limit.{Limit}
 use Rattle.box_conf.specs.Kinds.{meaning_of}
 use Rattle.world_io.specs.World.{Shown}
@@ -17,10 +17,13 @@ use Rattle.job_commands.specs.declared.inputs.Inputs.{Inputs}
 use Rattle.job_commands.specs.declared.status.Status.{Status}
 use Rattle.job_commands.specs.declared.status.Status.TheVariants as status
 use Rattle.job_commands.specs.Judging.{Judges}
+use Rattle.job_commands.specs.Meanings.{CommandMeaning}
 use Rattle.job_commands.specs.Run.{AcceptsInputs, StopsRun, outputs_of, setting_for}
+use Rattle.job_commands.specs.Status.{Completes}
 use Rattle.job_commands.specs.Turns.{FirstIsTooLarge}
 use Rattle.job_commands.specs.HandWords.{HandNames}
-use Rattle.job_commands.specs.Words.{run_of_hand}
+use Rattle.job_commands.specs.Words.{hand_inputs, run_of_hand}
+use Rattle.job_top.specs.Headline.{KeepsHanded}
 
 -- all input files are accepted
 abbrev pub AcceptsHandInputs : HandNames → Inputs → Shown → Type 0
@@ -123,3 +126,25 @@ HandsInOrder names old new =
 -- names that are no output of the command are as they were
 abbrev pub KeepsHandNames : HandNames → Shown → Shown → Type 0
 KeepsHandNames names old new = KeepsOthers (hand_outputs names) old new
+
+-- the promise of `hand`, for the events of its script
+pub record KeepsHandPromise (names : HandNames) (old new : Shown) : Type 0 where
+  pub inputs : Inputs
+  pub accepted : AcceptsHandInputs names inputs old
+  pub keeps : KeepsHanded inputs.conf.seal (setting_for inputs) (hand_outputs names) inputs.events new
+
+-- Where its inputs are accepted, `hand` is done, or says why its system can't be handed over yet.
+abbrev pub hand_meaning : HandNames → CommandMeaning
+hand_meaning names = record {
+  inputs = hand_inputs names;
+  files = 5;
+  Leaves = HandsWhole names;
+  Promises = KeepsHandPromise names;
+  StopsAt = HandsToLimit names;
+  LeavesUnready = HandsUnready names;
+  LeavesInOrder = HandsInOrder names;
+  KeepsNames = KeepsHandNames names;
+  Judges = λ healthy. JudgesHand healthy names;
+  Accepts = AreAcceptedForHand names;
+  CompletesAs = λ answer. Completes answer ⊎ ((unready : Unready) × (answer ≡ status.Unready unready));
+}

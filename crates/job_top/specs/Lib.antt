@@ -7,4 +7,5 @@ pub mod Headline
 pub mod Live
 pub mod Picture
 pub mod Resume
+pub mod Run
 pub mod Trace

@@ -1,5 +1,5 @@
 -- What the command `live` does: a run by the plan that the inputs ask for.
-use Rattle.std.specs.Prelude.{◌≡◌, ◌⊎◌, ℕ, false, List, [], ◌∷◌, ◌++◌, length}
+use Rattle.std.specs.Prelude.{◌≡◌, ◌⊎◌, ℕ, List, [], ◌∷◌, ◌++◌, Some, length}
 use Rattle.plain_text.specs.declared.limit.Limit.{Limit}
 use Rattle.plain_text.specs.declared.packet.Packet.{Packet}
 use Rattle.plain_machine.specs.declared.plain_move.PlainMove.{PlainMove}
@@ -23,8 +23,10 @@ use Rattle.job_commands.specs.declared.status.Status.TheVariants as status
 use Rattle.input_files.specs.Judging.{PlanTooLarge}
 use Rattle.job_commands.specs.Live.{AcceptsLiveInputs, JudgesLiveFiles}
 use Rattle.job_commands.specs.Turns.{FirstIsTooLarge}
-use Rattle.job_commands.specs.Status.{Stage, AtWords, AtInputs, AtOutputs, AtAnyTime}
-use Rattle.job_commands.specs.Words.{LiveNames}
+use Rattle.job_commands.specs.Status.{Completes}
+use Rattle.job_commands.specs.Words.{LiveNames, live_inputs}
+use Rattle.job_commands.specs.Meanings.{CommandMeaning, NeverUnready}
+use Rattle.job_top.specs.Headline.{KeepsPromise}
 
 -- the run that inputs ask for
 abbrev pub plan_of : LiveInputs → PlanRun
@@ -119,14 +121,30 @@ KeepsLiveNames names old new =
     (name : List ℕ) → ¬ (name ≡ names.released) → ¬ (name ≡ names.schedule) → ¬ (name ≡ names.script)
     → new.names name ≡ old.names name
 
--- the stage at which a status comes; a limit may be passed by an input, or by the run and the text that it leaves
-abbrev pub written_stage : Status → Stage
-written_stage status.Done = AtOutputs
-written_stage (status.Refuted refutation) = AtInputs
-written_stage status.BadWords = AtWords
-written_stage status.ReadFault = AtInputs
-written_stage status.WriteFault = AtOutputs
-written_stage status.NoMemory = AtAnyTime
-written_stage (status.BadInput fault) = AtInputs
-written_stage (status.TooLarge limit) = AtAnyTime
-written_stage (status.Unready unready) = AtOutputs
+-- The promise of `live`, for the events of the script that it wrote, which is a script of its plan.
+pub record KeepsLivePromise (names : LiveNames) (old new : Shown) : Type 0 where
+  pub inputs : LiveInputs
+  pub accepted : AcceptsLiveInputs names inputs old
+  pub events : List Event
+  pub there : SystemWorld (meaning_of inputs.conf.kind).value
+  pub of_plan :
+      IsScript (live_setting inputs) (opening (meaning_of inputs.conf.kind).value) no_orders inputs.plan events there
+  pub script_written : new.names names.script ≡ Some (script_text events)
+  pub keeps : KeepsPromise (live_setting inputs) (live_outputs names).outputs events new
+
+-- What it means, where the clock may answer these times. Where its inputs are accepted it is done, or names a limit, which
+-- a script of its plan passes.
+abbrev pub live_meaning : (ℕ → Type 0) → LiveNames → CommandMeaning
+live_meaning may names = record {
+  inputs = live_inputs names;
+  files = 6;
+  Leaves = LivesFiles may names;
+  Promises = KeepsLivePromise names;
+  StopsAt = LivesLimit names;
+  LeavesUnready = NeverUnready;
+  LeavesInOrder = LivesOrder names;
+  KeepsNames = KeepsLiveNames names;
+  Judges = λ healthy. JudgesLive healthy names;
+  Accepts = λ shown. (inputs : LiveInputs) × AcceptsLiveInputs names inputs shown;
+  CompletesAs = λ answer. Completes answer ⊎ ((limit : Limit) × (answer ≡ status.TooLarge limit));
+}

@@ -6,8 +6,11 @@ use Rattle.world_io.specs.World.{Shown}
 use Rattle.run_writes.specs.Run.{KeepsShown}
 use Rattle.noted_runs.specs.Picture.{HasPictured, HasStopped, HasBegunPicture}
 use Rattle.job_commands.specs.declared.inputs.Inputs.{Inputs}
+use Rattle.job_commands.specs.Judging.{AreAccepted, Judges}
+use Rattle.job_commands.specs.Meanings.{CommandMeaning, NeverUnready, PromisesNothing, StopsBy}
 use Rattle.job_commands.specs.Run.{AcceptsInputs, setting_for}
-use Rattle.job_commands.specs.Words.{PictureNames, pictured_run}
+use Rattle.job_commands.specs.Status.{Completes}
+use Rattle.job_commands.specs.Words.{PictureNames, pictured_run, run_inputs}
 
 -- all input files are accepted
 abbrev pub AcceptsPictureInputs : PictureNames → Inputs → Shown → Type 0
@@ -40,3 +43,18 @@ DrawsInOrder names old new =
 -- all names but the picture are as they were
 abbrev pub KeepsPictureNames : PictureNames → Shown → Shown → Type 0
 KeepsPictureNames names old new = (name : List ℕ) → ¬ (name ≡ names.picture) → new.names name ≡ old.names name
+
+abbrev pub picture_meaning : PictureNames → CommandMeaning
+picture_meaning names = record {
+  inputs = run_inputs (pictured_run names);
+  files = 4;
+  Leaves = DrawsWhole names;
+  Promises = PromisesNothing;
+  StopsAt = λ limit old new. StopsBy limit old new (DrawsToLimit names limit old new);
+  LeavesUnready = NeverUnready;
+  LeavesInOrder = DrawsInOrder names;
+  KeepsNames = KeepsPictureNames names;
+  Judges = λ healthy. Judges healthy (pictured_run names);
+  Accepts = AreAccepted (pictured_run names);
+  CompletesAs = Completes;
+}

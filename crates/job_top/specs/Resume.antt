@@ -1,5 +1,5 @@
 -- What the command `resume` does: a new system goes on from the text of a handover, by the events of a script.
-use Rattle.std.specs.Prelude.{◌≡◌, ◌⊎◌, ◌≤◌, ℕ, false, All, List, ◌∷◌, ◌++◌, Result, Err, ⊤, IsErrOf}
+use Rattle.std.specs.Prelude.{◌≡◌, ◌⊎◌, ◌≤◌, ℕ, All, List, ◌∷◌, ◌++◌, Result, Err, ⊤, IsErrOf}
 use Rattle.plain_text.specs.Packets.{IsShort}
 use Rattle.plain_text.specs.declared.limit.Limit.{Limit}
 use Rattle.plain_machine.specs.History.{Step}
@@ -32,10 +32,12 @@ use Rattle.job_commands.specs.declared.resume_inputs.ResumeSource.{ResumeSource}
 use Rattle.job_commands.specs.declared.status.InputFault.TheVariants.{Handover}
 use Rattle.job_commands.specs.declared.status.Status.{Status}
 use Rattle.job_commands.specs.declared.status.Status.TheVariants as status
-use Rattle.job_commands.specs.HandWords.{ResumeNames}
+use Rattle.job_commands.specs.HandWords.{ResumeNames, resume_inputs}
 use Rattle.job_commands.specs.Resume.{AcceptsResumeInputs, JudgesOneScript, JudgesResumeInputs, resumed_setting}
-use Rattle.job_commands.specs.Status.{AtInputs, ComesAt, EndsReading, run_outcome}
+use Rattle.job_commands.specs.Status.{AtInputs, ComesAt, Completes, EndsReading, run_outcome}
 use Rattle.job_top.specs.declared.resume.Resumption.{Resumption}
+use Rattle.job_commands.specs.Meanings.{CommandMeaning, NeverUnready, StopsBy}
+use Rattle.job_top.specs.Headline.{KeepsPromiseFrom}
 
 abbrev pub resume_outputs : ResumeNames → OutputNames
 resume_outputs names = record { released = names.released; schedule = names.schedule }
@@ -128,6 +130,27 @@ ResumesInOrder names old new =
 -- names that are no output of the command are as they were
 abbrev pub KeepsResumeNames : ResumeNames → Shown → Shown → Type 0
 KeepsResumeNames names old new = KeepsOthers (resume_outputs names) old new
+
+-- The promise of `resume`: that of a run from each world that was handed over with the image of its text.
+abbrev pub KeepsResumePromise : ResumeNames → Shown → Shown → Type 0
+KeepsResumePromise names old new =
+    HasGoneOn names old
+    (λ source events w. KeepsPromiseFrom (resumed_setting source) w (resume_outputs names) events new)
+
+abbrev pub resume_meaning : ResumeNames → CommandMeaning
+resume_meaning names = record {
+  inputs = resume_inputs names;
+  files = 6;
+  Leaves = ResumesWhole names;
+  Promises = KeepsResumePromise names;
+  StopsAt = λ limit old new. StopsBy limit old new (ResumesToLimit names limit old new);
+  LeavesUnready = NeverUnready;
+  LeavesInOrder = ResumesInOrder names;
+  KeepsNames = KeepsResumeNames names;
+  Judges = λ healthy. JudgesResume healthy names;
+  Accepts = AreAcceptedForResume names;
+  CompletesAs = Completes;
+}
 
 -- Within the steps of the command
 

@@ -13,9 +13,11 @@ use Rattle.job_commands.specs.declared.inputs.Inputs.{Inputs}
 use Rattle.job_commands.specs.declared.status.Status.{Status}
 use Rattle.job_commands.specs.declared.status.Status.TheVariants as status
 use Rattle.job_commands.specs.Judging.{Judges}
+use Rattle.job_commands.specs.Meanings.{CommandMeaning, NeverUnready, PromisesNothing, StopsBy}
 use Rattle.job_commands.specs.Run.{AcceptsInputs, StopsRun, setting_for}
+use Rattle.job_commands.specs.Status.{Completes}
 use Rattle.job_commands.specs.Turns.{FirstIsTooLarge}
-use Rattle.job_commands.specs.Words.{TraceNames, traced_run}
+use Rattle.job_commands.specs.Words.{TraceNames, run_inputs, traced_run}
 
 -- all input files are accepted
 abbrev pub AcceptsTraceInputs : TraceNames → Inputs → Shown → Type 0
@@ -86,3 +88,18 @@ TracesInOrder names old new =
 -- all names but the table are as they were
 abbrev pub KeepsTraceNames : TraceNames → Shown → Shown → Type 0
 KeepsTraceNames names old new = (name : List ℕ) → ¬ (name ≡ names.table) → new.names name ≡ old.names name
+
+abbrev pub trace_meaning : TraceNames → CommandMeaning
+trace_meaning names = record {
+  inputs = run_inputs (traced_run names);
+  files = 4;
+  Leaves = TracesWhole names;
+  Promises = PromisesNothing;
+  StopsAt = λ limit old new. StopsBy limit old new (TracesToLimit names limit old new);
+  LeavesUnready = NeverUnready;
+  LeavesInOrder = TracesInOrder names;
+  KeepsNames = KeepsTraceNames names;
+  Judges = λ healthy. JudgesTrace healthy names;
+  Accepts = AreAcceptedForTrace names;
+  CompletesAs = Completes;
+}

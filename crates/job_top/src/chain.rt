@@ -1,21 +1,16 @@
-ghost use Rattle.std.specs.Prelude.{◌≡◌, ◌+◌, ◌<◌, ◌≤◌, ◌-◌, ◌^◌, Err, OnOk, IsErrOf, true};
+ghost use Rattle.std.specs.Prelude.{◌≡◌, ◌<◌, ◌-◌, ◌^◌, Err, OnOk, IsErrOf, true};
 ghost use Rattle.plain_text.specs.declared.limit.Limit.{Limit as LimitKind};
-ghost use Rattle.world_io.specs.Stream.{Rose};
-ghost use Rattle.world_io.specs.World.{Start, KeepsOrder, WritingFailed};
+ghost use Rattle.world_io.specs.World.{Start, WritingFailed};
 ghost use Rattle.box_conf.specs.Kinds.{meaning_of};
-ghost use Rattle.input_files.specs.Files.{OpensAll, OpensFirst};
 ghost use Rattle.output_files.specs.Written.{WritesFiles};
-ghost use Rattle.run_writes.specs.Run.{KeepsShown};
 ghost use Rattle.chain_command.specs.Headline.{KeepsChainPromise as KeepsBothPromises};
 ghost use Rattle.chain_command.specs.Outputs.{AreApart, CanChain, names_of as output_names_of};
 ghost use Rattle.chain_command.specs.Outputs.{first_setting, second_setting};
 ghost use Rattle.chain_command.specs.Writes.{HasBegunChain, HasChained, HasStopped};
-ghost use Rattle.job_commands.specs.ChainWords.{all_apart, chain_inputs, chain_names_of};
-ghost use Rattle.job_commands.specs.Status.{AtInputs, AtOutputs, IsRefusal, stage_of};
-ghost use Rattle.job_commands.specs.Status.{stage_of_limit};
-ghost use Rattle.job_top.specs.Chain.{ChainsInOrder, ChainsToLimit, ChainsWhole, JudgesChain};
+ghost use Rattle.job_commands.specs.ChainWords.{all_apart, chain_names_of};
 ghost use Rattle.job_top.specs.Chain.{chain_of, chain_outputs, first_of, second_of};
-ghost use Rattle.job_top.specs.Headline.{KeepsChainPromise};
+ghost use Rattle.job_commands.specs.Answers.{AnswersAs};
+ghost use Rattle.job_top.specs.Chain.{chain_meaning};
 
 use box_conf::BoxKind;
 use box_program::Program;
@@ -172,34 +167,8 @@ fn chain_boxes<W: World>(
 pub(crate) fn chain<W: World>(alloc: Global, world: &mut W, names: ChainWords<'_>) -> Status
     requires room { (W.ledger world.old).given < 2 ^ 31 }
     requires apart { all_apart (chain_names_of names) ≡ true }
-    ensures done { (p : Start) → W.honest p world.new → result ≡ Status.Done → ChainsWhole
-        (chain_names_of names.entry) (W.shows p world.old) (W.shows p world.new) }
-    ensures headline { (p : Start) → W.honest p world.new → result ≡ Status.Done
-        → KeepsChainPromise (chain_names_of names.entry)
-        (W.shows p world.old) (W.shows p world.new) }
-    ensures limit { (p : Start) → W.honest p world.new → (limit : LimitKind)
-        → result ≡ Status.TooLarge limit → stage_of_limit limit ≡ AtOutputs → ChainsToLimit
-        (chain_names_of names.entry) limit (W.shows p world.old) (W.shows p world.new) }
-    ensures judged { (p : Start) → W.honest p world.new → JudgesChain (W.healthy world.old)
-        (chain_names_of names.entry) result (W.shows p world.old) }
-    ensures in_order { (p : Start) → W.honest p world.new → ChainsInOrder
-        (chain_names_of names.entry) (W.shows p world.old) (W.shows p world.new) }
-    ensures refused { (p : Start) → W.honest p world.new → stage_of result ≡ AtInputs
-        → KeepsShown (W.shows p world.old) (W.shows p world.new) }
-    ensures creates_nothing { IsRefusal result
-        → (W.ledger world.new).created ≡ (W.ledger world.old).created }
-    ensures words { result ≡ Status.BadWords → ⊥ }
-    ensures opens_in_order { OpensFirst (chain_inputs (chain_names_of names.entry))
-        (W.ledger world.old) (W.ledger world.new) }
-    ensures opens_all { result ≡ Status.Done → OpensAll (chain_inputs
-        (chain_names_of names.entry)) (W.ledger world.old) (W.ledger world.new) }
-    ensures orderly { KeepsOrder (W.ledger world.old) (W.ledger world.new) }
-    ensures given { (W.ledger world.new).given ≤ (W.ledger world.old).given + 8 }
-    ensures read_fault { result ≡ Status.ReadFault
-        → Rose (W.ledger world.old).read_faults (W.ledger world.new).read_faults }
-    ensures write_fault { result ≡ Status.WriteFault
-        → WritingFailed W.ledger W.healthy world.old world.new }
-    ensures before { (p : Start) → W.honest p world.new → W.honest p world.old }
+    ensures { AnswersAs W.honest W.shows W.ledger W.healthy
+        (chain_meaning (chain_names_of names.entry)) result world.old world.new }
 {
     match read_chain_inputs(alloc, world, names) {
         Ok(inputs) => run_outcome(chain_boxes(alloc, world, names, inputs)),

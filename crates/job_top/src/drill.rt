@@ -1,18 +1,13 @@
-ghost use Rattle.std.specs.Prelude.{◌≡◌, ◌+◌, ◌<◌, ◌≤◌, ◌-◌, ◌^◌, Err, OnOk, IsErrOf};
+ghost use Rattle.std.specs.Prelude.{◌≡◌, ◌<◌, ◌≤◌, ◌-◌, ◌^◌, Err, OnOk, IsErrOf};
 ghost use Rattle.plain_text.specs.declared.limit.Limit.{Limit as LimitKind};
-ghost use Rattle.world_io.specs.Stream.{Rose};
-ghost use Rattle.world_io.specs.World.{Start, KeepsOrder, WritingFailed};
-ghost use Rattle.input_files.specs.Files.{OpensAll, OpensFirst};
+ghost use Rattle.world_io.specs.World.{Start, WritingFailed};
 ghost use Rattle.output_files.specs.Written.{WritesFiles};
-ghost use Rattle.run_writes.specs.Run.{KeepsShown};
 ghost use Rattle.noted_runs.specs.Drill.{CanDrill, HasBegunDrill, HasDrilled, HasStopped};
-ghost use Rattle.job_commands.specs.Status.{AtInputs, AtOutputs, IsRefusal, stage_of};
-ghost use Rattle.job_commands.specs.Status.{stage_of_limit};
-ghost use Rattle.job_commands.specs.Words.{drill_inputs, drill_names_of};
-ghost use Rattle.job_top.specs.Drill.{DrillsInOrder, DrillsToLimit, DrillsWhole, JudgesDrill};
+ghost use Rattle.job_commands.specs.Words.{drill_names_of};
 ghost use Rattle.job_top.specs.Drill.{drill_of, drill_outputs, drill_setting};
 ghost use Rattle.job_top.specs.Drill.{has_drop_table as has_drop_table_of};
-ghost use Rattle.job_top.specs.Headline.{KeepsDrillPromise};
+ghost use Rattle.job_commands.specs.Answers.{AnswersAs};
+ghost use Rattle.job_top.specs.Drill.{drill_meaning};
 
 use box_conf::BoxKind;
 use job_commands::{DrillWords, FirstInputs, Status, read_first_inputs, run_outcome};
@@ -85,34 +80,8 @@ pub(crate) fn drill<W: World>(alloc: Global, world: &mut W, names: DrillWords<'_
     requires room { (W.ledger world.old).given < 2 ^ 31 }
     requires some { 1 ≤ names.every }
     requires apart { names.released.now ≡ names.schedule.now → ⊥ }
-    ensures done { (p : Start) → W.honest p world.new → result ≡ Status.Done → DrillsWhole
-        (drill_names_of names.entry) (W.shows p world.old) (W.shows p world.new) }
-    ensures headline { (p : Start) → W.honest p world.new → result ≡ Status.Done
-        → KeepsDrillPromise (drill_names_of names.entry)
-        (W.shows p world.old) (W.shows p world.new) }
-    ensures limit { (p : Start) → W.honest p world.new → (limit : LimitKind)
-        → result ≡ Status.TooLarge limit → stage_of_limit limit ≡ AtOutputs → DrillsToLimit
-        (drill_names_of names.entry) limit (W.shows p world.old) (W.shows p world.new) }
-    ensures judged { (p : Start) → W.honest p world.new → JudgesDrill (W.healthy world.old)
-        (drill_names_of names.entry) result (W.shows p world.old) }
-    ensures in_order { (p : Start) → W.honest p world.new → DrillsInOrder
-        (drill_names_of names.entry) (W.shows p world.old) (W.shows p world.new) }
-    ensures refused { (p : Start) → W.honest p world.new → stage_of result ≡ AtInputs
-        → KeepsShown (W.shows p world.old) (W.shows p world.new) }
-    ensures creates_nothing { IsRefusal result
-        → (W.ledger world.new).created ≡ (W.ledger world.old).created }
-    ensures words { result ≡ Status.BadWords → ⊥ }
-    ensures opens_in_order { OpensFirst (drill_inputs (drill_names_of names.entry))
-        (W.ledger world.old) (W.ledger world.new) }
-    ensures opens_all { result ≡ Status.Done → OpensAll (drill_inputs
-        (drill_names_of names.entry)) (W.ledger world.old) (W.ledger world.new) }
-    ensures orderly { KeepsOrder (W.ledger world.old) (W.ledger world.new) }
-    ensures given { (W.ledger world.new).given ≤ (W.ledger world.old).given + 4 }
-    ensures read_fault { result ≡ Status.ReadFault
-        → Rose (W.ledger world.old).read_faults (W.ledger world.new).read_faults }
-    ensures write_fault { result ≡ Status.WriteFault
-        → WritingFailed W.ledger W.healthy world.old world.new }
-    ensures before { (p : Start) → W.honest p world.new → W.honest p world.old }
+    ensures { AnswersAs W.honest W.shows W.ledger W.healthy
+        (drill_meaning (drill_names_of names.entry)) result world.old world.new }
 {
     match read_first_inputs(alloc, world, names.box_file, names.capture) {
         Ok(inputs) => run_outcome(drill_box(alloc, world, names, inputs)),

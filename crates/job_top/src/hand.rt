@@ -1,20 +1,16 @@
-ghost use Rattle.std.specs.Prelude.{◌≡◌, ◌+◌, ◌<◌, ◌≤◌, ◌-◌, ◌^◌, Err, OnOk, IsErrOf};
+ghost use Rattle.std.specs.Prelude.{◌≡◌, ◌<◌, ◌-◌, ◌^◌, Err, OnOk, IsErrOf};
 ghost use Rattle.plain_text.specs.declared.limit.Limit.{Limit as LimitKind};
-ghost use Rattle.world_io.specs.Stream.{Rose};
-ghost use Rattle.world_io.specs.World.{Start, KeepsOrder, WritingFailed};
+ghost use Rattle.world_io.specs.World.{Start, WritingFailed};
 ghost use Rattle.handover_world.specs.declared.unready.Unready.{Unready as UnreadyKind};
-ghost use Rattle.input_files.specs.Files.{OpensAll, OpensFirst};
 ghost use Rattle.output_files.specs.Written.{WritesFiles};
-ghost use Rattle.run_writes.specs.Run.{CanRun, KeepsShown};
+ghost use Rattle.run_writes.specs.Run.{CanRun};
 ghost use Rattle.hand_command.specs.Hand.{HasBegunHand, HasHanded, IsNotReady};
 ghost use Rattle.job_commands.specs.Run.{script_of, setting_for};
-ghost use Rattle.job_commands.specs.Status.{AtInputs, IsRefusal, stage_of};
 ghost use Rattle.job_commands.specs.HandWords.{hand_names_of};
-ghost use Rattle.job_commands.specs.Words.{hand_inputs};
-ghost use Rattle.job_top.specs.Hand.{HandsInOrder, HandsToLimit, HandsUnready, HandsWhole};
-ghost use Rattle.job_top.specs.Hand.{JudgesHand, PassesLimit, hand_outputs};
+ghost use Rattle.job_top.specs.Hand.{PassesLimit, hand_outputs};
 ghost use Rattle.job_top.specs.Hand.{hand_outcome as hand_outcome_of};
-ghost use Rattle.job_top.specs.Headline.{KeepsHandPromise};
+ghost use Rattle.job_commands.specs.Answers.{AnswersAs};
+ghost use Rattle.job_top.specs.Hand.{hand_meaning};
 
 use box_conf::BoxKind;
 use hand_command::{HandError, HandFiles, run_hand};
@@ -90,38 +86,8 @@ fn hand_box<W: World>(
 pub(crate) fn hand<W: World>(alloc: Global, world: &mut W, names: HandWords<'_>) -> Status
     requires room { (W.ledger world.old).given < 2 ^ 31 }
     requires apart { names.released.now ≡ names.handover.now → ⊥ }
-    ensures done { (p : Start) → W.honest p world.new → result ≡ Status.Done → HandsWhole
-        (hand_names_of names.entry) (W.shows p world.old) (W.shows p world.new) }
-    ensures headline { (p : Start) → W.honest p world.new → result ≡ Status.Done
-        → KeepsHandPromise (hand_names_of names.entry)
-        (W.shows p world.old) (W.shows p world.new) }
-    ensures unready { (p : Start) → W.honest p world.new → (unready : UnreadyKind)
-        → result ≡ Status.Unready unready → HandsUnready
-        (hand_names_of names.entry) unready (W.shows p world.old) (W.shows p world.new) }
-    ensures limit { (p : Start) → W.honest p world.new → (limit : LimitKind)
-        → result ≡ Status.TooLarge limit → HandsToLimit
-        (hand_names_of names.entry) limit (W.shows p world.old) (W.shows p world.new) }
-    ensures judged { (p : Start) → W.honest p world.new → JudgesHand (W.healthy world.old)
-        (hand_names_of names.entry) result (W.shows p world.old) }
-    ensures in_order { (p : Start) → W.honest p world.new → HandsInOrder
-        (hand_names_of names.entry) (W.shows p world.old) (W.shows p world.new) }
-    ensures refused { (p : Start) → W.honest p world.new → stage_of result ≡ AtInputs
-        → ((limit : LimitKind) → result ≡ Status.TooLarge limit → ⊥)
-        → KeepsShown (W.shows p world.old) (W.shows p world.new) }
-    ensures creates_nothing { IsRefusal result
-        → (W.ledger world.new).created ≡ (W.ledger world.old).created }
-    ensures words { result ≡ Status.BadWords → ⊥ }
-    ensures opens_in_order { OpensFirst (hand_inputs (hand_names_of names.entry))
-        (W.ledger world.old) (W.ledger world.new) }
-    ensures opens_all { result ≡ Status.Done → OpensAll (hand_inputs
-        (hand_names_of names.entry)) (W.ledger world.old) (W.ledger world.new) }
-    ensures orderly { KeepsOrder (W.ledger world.old) (W.ledger world.new) }
-    ensures given { (W.ledger world.new).given ≤ (W.ledger world.old).given + 5 }
-    ensures read_fault { result ≡ Status.ReadFault
-        → Rose (W.ledger world.old).read_faults (W.ledger world.new).read_faults }
-    ensures write_fault { result ≡ Status.WriteFault
-        → WritingFailed W.ledger W.healthy world.old world.new }
-    ensures before { (p : Start) → W.honest p world.new → W.honest p world.old }
+    ensures { AnswersAs W.honest W.shows W.ledger W.healthy
+        (hand_meaning (hand_names_of names.entry)) result world.old world.new }
 {
     // The text of the handover stands where a run has its schedule.
     let run = RunWords {

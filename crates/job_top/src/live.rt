@@ -1,18 +1,13 @@
-ghost use Rattle.std.specs.Prelude.{◌≡◌, ◌+◌, ◌<◌, ◌≤◌, ◌-◌, ◌^◌, Err, OnOk, IsErrOf};
+ghost use Rattle.std.specs.Prelude.{◌≡◌, ◌+◌, ◌<◌, ◌-◌, ◌^◌, Err, OnOk, IsErrOf};
 ghost use Rattle.plain_text.specs.declared.limit.Limit.{Limit as LimitKind};
-ghost use Rattle.world_io.specs.Stream.{Rose};
-ghost use Rattle.world_io.specs.World.{Start, KeepsOrder, WritingFailed};
-ghost use Rattle.input_files.specs.Files.{OpensAll, OpensFirst};
+ghost use Rattle.world_io.specs.World.{Start, WritingFailed};
 ghost use Rattle.output_files.specs.Written.{WritesFiles};
-ghost use Rattle.run_writes.specs.Run.{KeepsShown};
 ghost use Rattle.live_writes.specs.Outputs.{AreApart, CanLive};
 ghost use Rattle.live_command.specs.Plans.{LivesInOrder, LivesToLimit, LivesWhole};
-ghost use Rattle.job_commands.specs.Status.{AtInputs, IsRefusal, stage_of};
-ghost use Rattle.job_commands.specs.Words.{live_inputs, live_names_of};
-ghost use Rattle.job_commands.specs.declared.status.Status.TheVariants as status;
-ghost use Rattle.job_top.specs.Live.{JudgesLive, LivesFiles, LivesLimit, LivesOrder};
+ghost use Rattle.job_commands.specs.Words.{live_names_of};
 ghost use Rattle.job_top.specs.Live.{live_outputs, live_setting, plan_of};
-ghost use Rattle.job_top.specs.Headline.{KeepsLivePromise};
+ghost use Rattle.job_commands.specs.Answers.{AnswersAs};
+ghost use Rattle.job_top.specs.Live.{live_meaning};
 
 use box_conf::BoxKind;
 use job_commands::{LiveInputs, LiveWords, Status, read_live_inputs, run_outcome};
@@ -81,34 +76,8 @@ pub(crate) fn live<
 >(rt: &R, world: &mut W, names: LiveWords<'_>, clock: &C, gate: &G) -> Status
     requires room { (W.ledger world.old).given < 2 ^ 31 }
     requires apart { AreApart (live_outputs (live_names_of names)) }
-    ensures done { (p : Start) → W.honest p world.new → result ≡ Status.Done → LivesFiles
-        (C.may clock.now) (live_names_of names.entry) (W.shows p world.old) (W.shows p world.new) }
-    ensures headline { (p : Start) → W.honest p world.new → result ≡ Status.Done
-        → KeepsLivePromise (live_names_of names.entry) (W.shows p world.old) (W.shows p world.new) }
-    ensures limit { (p : Start) → W.honest p world.new → (limit : LimitKind)
-        → result ≡ Status.TooLarge limit
-        → LivesLimit (live_names_of names.entry) limit (W.shows p world.old) (W.shows p world.new) }
-    ensures judged { (p : Start) → W.honest p world.new → JudgesLive (W.healthy world.old)
-        (live_names_of names.entry) result (W.shows p world.old) }
-    ensures in_order { (p : Start) → W.honest p world.new
-        → LivesOrder (live_names_of names.entry) (W.shows p world.old) (W.shows p world.new) }
-    ensures refused { (p : Start) → W.honest p world.new → stage_of result ≡ AtInputs
-        → ((limit : LimitKind) → result ≡ Status.TooLarge limit → ⊥)
-        → KeepsShown (W.shows p world.old) (W.shows p world.new) }
-    ensures creates_nothing { IsRefusal result
-        → (W.ledger world.new).created ≡ (W.ledger world.old).created }
-    ensures words { result ≡ Status.BadWords → ⊥ }
-    ensures opens_in_order { OpensFirst (live_inputs (live_names_of names.entry))
-        (W.ledger world.old) (W.ledger world.new) }
-    ensures opens_all { result ≡ Status.Done → OpensAll (live_inputs (live_names_of names.entry))
-        (W.ledger world.old) (W.ledger world.new) }
-    ensures orderly { KeepsOrder (W.ledger world.old) (W.ledger world.new) }
-    ensures given { (W.ledger world.new).given ≤ (W.ledger world.old).given + 6 }
-    ensures read_fault { result ≡ Status.ReadFault
-        → Rose (W.ledger world.old).read_faults (W.ledger world.new).read_faults }
-    ensures write_fault { result ≡ Status.WriteFault
-        → WritingFailed W.ledger W.healthy world.old world.new }
-    ensures before { (p : Start) → W.honest p world.new → W.honest p world.old }
+    ensures { AnswersAs W.honest W.shows W.ledger W.healthy
+        (live_meaning (C.may clock.now) (live_names_of names.entry)) result world.old world.new }
 {
     match read_live_inputs(rt.alloc(), world, names) {
         Ok(inputs) => run_outcome(live_box(rt, world, names, inputs, clock, gate)),

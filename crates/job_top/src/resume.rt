@@ -1,5 +1,4 @@
 ghost use Rattle.std.specs.Prelude.{◌≡◌, ◌+◌, ◌<◌, ◌≤◌, ◌-◌, ◌^◌, ◌∷◌, [], false};
-ghost use Rattle.plain_text.specs.declared.limit.Limit.{Limit as LimitKind};
 ghost use Rattle.world_io.specs.Stream.{Rose};
 ghost use Rattle.world_io.specs.World.{Start, KeepsOrder, WritingFailed};
 ghost use Rattle.recovery_world.specs.World.{Setting, World as SystemWorld};
@@ -8,17 +7,15 @@ ghost use Rattle.handover.specs.declared.image.Image.{Image};
 ghost use Rattle.handover_seal.specs.Seals.{unsealed};
 ghost use Rattle.handover_world.specs.Faults.{IsFault};
 ghost use Rattle.input_files.specs.Files.{OpensAll, OpensFirst};
-ghost use Rattle.run_writes.specs.Run.{KeepsShown};
 ghost use Rattle.hand_command.specs.FromRunCommand.{IsSomewhere, IsSystemAt};
 ghost use Rattle.hand_command.specs.Hand.{IsHandedOver};
-ghost use Rattle.job_commands.specs.HandWords.{resume_inputs, resume_names_of};
+ghost use Rattle.job_commands.specs.HandWords.{resume_names_of};
 ghost use Rattle.job_commands.specs.Resume.{resumed_setting};
-ghost use Rattle.job_commands.specs.Status.{AtInputs, AtOutputs, IsRefusal, stage_of};
-ghost use Rattle.job_commands.specs.Status.{stage_of_limit};
-ghost use Rattle.job_top.specs.Headline.{KeepsResumePromise};
-ghost use Rattle.job_top.specs.Resume.{CanResume, GoesOnBy, GoesOnFrom, IsRefusedSo, JudgesResume};
-ghost use Rattle.job_top.specs.Resume.{ResumesInOrder, ResumesToLimit, ResumesWhole};
+ghost use Rattle.job_commands.specs.Status.{IsRefusal};
+ghost use Rattle.job_top.specs.Resume.{CanResume, GoesOnBy, GoesOnFrom, IsRefusedSo};
 ghost use Rattle.job_top.specs.Resume.{resumption_of, setting_from};
+ghost use Rattle.job_commands.specs.Answers.{AnswersAs};
+ghost use Rattle.job_top.specs.Resume.{resume_meaning};
 
 use box_conf::BoxKind;
 use box_program::Program;
@@ -213,34 +210,8 @@ fn resume_kinds<W: World>(
 pub(crate) fn resume<W: World>(alloc: Global, world: &mut W, names: ResumeWords<'_>) -> Status
     requires room { (W.ledger world.old).given < 2 ^ 31 }
     requires apart { names.released.now ≡ names.schedule.now → ⊥ }
-    ensures done { (p : Start) → W.honest p world.new → result ≡ Status.Done → ResumesWhole
-        (resume_names_of names.entry) (W.shows p world.old) (W.shows p world.new) }
-    ensures headline { (p : Start) → W.honest p world.new → result ≡ Status.Done
-        → KeepsResumePromise (resume_names_of names.entry)
-        (W.shows p world.old) (W.shows p world.new) }
-    ensures limit { (p : Start) → W.honest p world.new → (limit : LimitKind)
-        → result ≡ Status.TooLarge limit → stage_of_limit limit ≡ AtOutputs → ResumesToLimit
-        (resume_names_of names.entry) limit (W.shows p world.old) (W.shows p world.new) }
-    ensures judged { (p : Start) → W.honest p world.new → JudgesResume (W.healthy world.old)
-        (resume_names_of names.entry) result (W.shows p world.old) }
-    ensures in_order { (p : Start) → W.honest p world.new → ResumesInOrder
-        (resume_names_of names.entry) (W.shows p world.old) (W.shows p world.new) }
-    ensures refused { (p : Start) → W.honest p world.new → stage_of result ≡ AtInputs
-        → KeepsShown (W.shows p world.old) (W.shows p world.new) }
-    ensures creates_nothing { IsRefusal result
-        → (W.ledger world.new).created ≡ (W.ledger world.old).created }
-    ensures words { result ≡ Status.BadWords → ⊥ }
-    ensures opens_in_order { OpensFirst (resume_inputs (resume_names_of names.entry))
-        (W.ledger world.old) (W.ledger world.new) }
-    ensures opens_all { result ≡ Status.Done → OpensAll (resume_inputs
-        (resume_names_of names.entry)) (W.ledger world.old) (W.ledger world.new) }
-    ensures orderly { KeepsOrder (W.ledger world.old) (W.ledger world.new) }
-    ensures given { (W.ledger world.new).given ≤ (W.ledger world.old).given + 6 }
-    ensures read_fault { result ≡ Status.ReadFault
-        → Rose (W.ledger world.old).read_faults (W.ledger world.new).read_faults }
-    ensures write_fault { result ≡ Status.WriteFault
-        → WritingFailed W.ledger W.healthy world.old world.new }
-    ensures before { (p : Start) → W.honest p world.new → W.honest p world.old }
+    ensures { AnswersAs W.honest W.shows W.ledger W.healthy
+        (resume_meaning (resume_names_of names.entry)) result world.old world.new }
 {
     match read_resume_source(alloc, world, names) {
         Ok(source) => resume_kinds(alloc, world, names, source),

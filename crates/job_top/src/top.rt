@@ -1,23 +1,16 @@
-ghost use Rattle.std.specs.Prelude.{◌≡◌, ◌+◌, ◌<◌, ◌≤◌, ◌-◌, ◌^◌, ◌↔◌, None, Err, OnOk};
+ghost use Rattle.std.specs.Prelude.{◌≡◌, ◌+◌, ◌<◌, ◌-◌, ◌^◌, ◌↔◌, None, Err, OnOk};
 ghost use Rattle.std.specs.Prelude.{IsErrOf};
 ghost use Rattle.plain_text.specs.declared.limit.Limit.{Limit as LimitKind};
-ghost use Rattle.world_io.specs.Stream.{Rose};
-ghost use Rattle.handover_world.specs.declared.unready.Unready.{Unready as UnreadyKind};
-ghost use Rattle.input_files.specs.Files.{OpensAll, OpensFirst};
 ghost use Rattle.output_files.specs.Written.{WritesFiles};
-ghost use Rattle.run_writes.specs.Run.{CanRun, HasBegunRun, HasRun, HasStopped, KeepsShown};
-ghost use Rattle.job_top.specs.Commands.{AcceptsInputsOf, CompletesAs, Leaves, LeavesInOrder};
-ghost use Rattle.job_top.specs.Commands.{JudgesInputsOf, KeepsNames, LeavesUnready, StopsAtLimit};
-ghost use Rattle.job_top.specs.Commands.{stage_in};
-ghost use Rattle.job_top.specs.Headline.{KeepsPromiseOf, KeepsRunPromise};
-ghost use Rattle.job_commands.specs.Judging.{Judges};
-ghost use Rattle.job_commands.specs.Run.{RunsInOrder, RunsToLimit, RunsWhole, outputs_of};
+ghost use Rattle.run_writes.specs.Run.{CanRun, HasBegunRun, HasRun, HasStopped};
+ghost use Rattle.job_commands.specs.Run.{outputs_of};
 ghost use Rattle.job_commands.specs.Run.{script_of, setting_for};
-ghost use Rattle.job_commands.specs.Status.{AtInputs, AtOutputs, IsRefusal, stage_of};
-ghost use Rattle.job_commands.specs.Status.{stage_of_limit};
-ghost use Rattle.job_commands.specs.Words.{asked, IfAsks, inputs_of, live_names};
-ghost use Rattle.job_commands.specs.Words.{names_of, run_inputs};
-ghost use Rattle.world_io.specs.World.{Start, KeepsOrder, WritingFailed};
+ghost use Rattle.job_commands.specs.Words.{asked, IfAsks, live_names};
+ghost use Rattle.job_commands.specs.Words.{names_of};
+ghost use Rattle.world_io.specs.World.{Start, WritingFailed};
+ghost use Rattle.job_commands.specs.Answers.{AnswersAs};
+ghost use Rattle.job_top.specs.Commands.{meaning_of};
+ghost use Rattle.job_top.specs.Run.{run_meaning};
 
 use crate::chain::chain;
 use crate::drill::drill;
@@ -29,8 +22,8 @@ use crate::trace::trace;
 use box_conf::BoxKind;
 use hand_command::run_script;
 use job_commands::{
-    Command, Inputs, RunWords, Status, check_released, make_capture, outcome, play_capture,
-    read_command, read_inputs, read_live_words, run_outcome,
+    Command, Inputs, RunWords, Status, check_released, make_capture, play_capture, read_command,
+    read_inputs, read_live_words, run_outcome,
 };
 use plain_text::Text;
 use run_writes::{RunError, RunFiles, ScriptRun};
@@ -88,33 +81,8 @@ fn run_box<W: World>(
 fn run<W: World>(alloc: Global, world: &mut W, names: RunWords<'_>) -> Status
     requires room { (W.ledger world.old).given < 2 ^ 31 }
     requires apart { names.released.now ≡ names.schedule.now → ⊥ }
-    ensures done { (p : Start) → W.honest p world.new → result ≡ Status.Done
-        → RunsWhole (names_of names.entry) (W.shows p world.old) (W.shows p world.new) }
-    ensures headline { (p : Start) → W.honest p world.new → result ≡ Status.Done
-        → KeepsRunPromise (names_of names.entry) (W.shows p world.old) (W.shows p world.new) }
-    ensures limit { (p : Start) → W.honest p world.new → (limit : LimitKind)
-        → result ≡ Status.TooLarge limit → stage_of_limit limit ≡ AtOutputs
-        → RunsToLimit (names_of names.entry) limit (W.shows p world.old) (W.shows p world.new) }
-    ensures judged { (p : Start) → W.honest p world.new
-        → Judges (W.healthy world.old) (names_of names.entry) result (W.shows p world.old) }
-    ensures in_order { (p : Start) → W.honest p world.new
-        → RunsInOrder (names_of names.entry) (W.shows p world.old) (W.shows p world.new) }
-    ensures refused { (p : Start) → W.honest p world.new → stage_of result ≡ AtInputs
-        → KeepsShown (W.shows p world.old) (W.shows p world.new) }
-    ensures creates_nothing { IsRefusal result
-        → (W.ledger world.new).created ≡ (W.ledger world.old).created }
-    ensures words { result ≡ Status.BadWords → ⊥ }
-    ensures opens_in_order { OpensFirst (run_inputs (names_of names.entry))
-        (W.ledger world.old) (W.ledger world.new) }
-    ensures opens_all { result ≡ Status.Done → OpensAll (run_inputs (names_of names.entry))
-        (W.ledger world.old) (W.ledger world.new) }
-    ensures orderly { KeepsOrder (W.ledger world.old) (W.ledger world.new) }
-    ensures given { (W.ledger world.new).given ≤ (W.ledger world.old).given + 5 }
-    ensures read_fault { result ≡ Status.ReadFault
-        → Rose (W.ledger world.old).read_faults (W.ledger world.new).read_faults }
-    ensures write_fault { result ≡ Status.WriteFault
-        → WritingFailed W.ledger W.healthy world.old world.new }
-    ensures before { (p : Start) → W.honest p world.new → W.honest p world.old }
+    ensures { AnswersAs W.honest W.shows W.ledger W.healthy
+        (run_meaning (names_of names.entry)) result world.old world.new }
 {
     match read_inputs(alloc, world, names) {
         Ok(inputs) => run_outcome(run_box(alloc, world, names, inputs)),
@@ -129,63 +97,17 @@ pub fn serial<W: World>(alloc: Global, words: &[Text], world: &mut W) -> Status
     requires room { (W.ledger world.old).given < 2 ^ 31 }
     requires no_rounds { live_names words.now ≡ None }
 
-    // What is asked: words that ask for no command change nothing.
+    // Words that ask for no command change nothing.
     ensures bad_words { result ≡ Status.BadWords ↔ asked words.now ≡ None }
     ensures nothing_asked { result ≡ Status.BadWords → world.new ≡ world.old }
 
-    // What Done leaves: the outputs, whole.
-    ensures done { (p : Start) → W.honest p world.new → result ≡ Status.Done → IfAsks words.now
-        (λ command. Leaves (λ t. ⊥) command (W.shows p world.old) (W.shows p world.new)) }
-
-    // The promise: what was released is part of one legal run without crashes.
-    ensures headline { (p : Start) → W.honest p world.new → result ≡ Status.Done → IfAsks words.now
-        (λ command. KeepsPromiseOf command (W.shows p world.old) (W.shows p world.new)) }
-
-    // What any other answer leaves: the outputs up to a limit, those of a system that is not ready,
-    // a first part of them in their order, or nothing where an input is refused; then nothing is
-    // created either, whatever the world answered. No other file changes.
-    ensures limit { (p : Start) → W.honest p world.new → (limit : LimitKind)
-        → result ≡ Status.TooLarge limit → IfAsks words.now
-        (λ command. StopsAtLimit command limit (W.shows p world.old) (W.shows p world.new)) }
-    ensures unready { (p : Start) → W.honest p world.new → (unready : UnreadyKind)
-        → result ≡ Status.Unready unready → IfAsks words.now (λ command.
-        LeavesUnready command unready (W.shows p world.old) (W.shows p world.new)) }
-    ensures in_order { (p : Start) → W.honest p world.new → IfAsks words.now
-        (λ command. LeavesInOrder command (W.shows p world.old) (W.shows p world.new)) }
-    ensures refused { (p : Start) → W.honest p world.new
-        → IfAsks words.now (λ command. stage_in command result ≡ AtInputs
-        → KeepsShown (W.shows p world.old) (W.shows p world.new)) }
-    ensures creates_nothing { IsRefusal result
-        → (W.ledger world.new).created ≡ (W.ledger world.old).created }
-    ensures others { (p : Start) → W.honest p world.new → IfAsks words.now
-        (λ command. KeepsNames command (W.shows p world.old) (W.shows p world.new)) }
-
-    // The cause of each answer, and when the command is done.
-    ensures judged { (p : Start) → W.honest p world.new → IfAsks words.now
-        (λ command. JudgesInputsOf (W.healthy world.old) command result (W.shows p world.old)) }
-    ensures completes { W.healthy world.old → (p : Start) → W.honest p world.new
-        → IfAsks words.now (λ command. AcceptsInputsOf command (W.shows p world.old)
-        → CompletesAs command result) }
-    ensures never_fails { W.healthy world.old → ¬ (result ≡ Status.WriteFault) }
-
-    // The world's ledger: which faults rose, how many files it gave a number, that the input files
-    // were opened in the order of the words, a first part of them, and all for Done, and that the
-    // calls stay orderly.
-    ensures read_fault { result ≡ Status.ReadFault
-        → Rose (W.ledger world.old).read_faults (W.ledger world.new).read_faults }
-    ensures write_fault { result ≡ Status.WriteFault
-        → Rose (W.ledger world.old).write_faults (W.ledger world.new).write_faults }
-    ensures opens_in_order { IfAsks words.now (λ command.
-        OpensFirst (inputs_of command) (W.ledger world.old) (W.ledger world.new)) }
-    ensures opens_all { result ≡ Status.Done → IfAsks words.now (λ command.
-        OpensAll (inputs_of command) (W.ledger world.old) (W.ledger world.new)) }
-    ensures orderly { KeepsOrder (W.ledger world.old) (W.ledger world.new) }
-    ensures given { (W.ledger world.new).given ≤ (W.ledger world.old).given + 8 }
-    ensures before { (p : Start) → W.honest p world.new → W.honest p world.old }
+    // Others are answered as the command means it.
+    ensures answers { IfAsks words.now (λ command. AnswersAs W.honest W.shows W.ledger W.healthy
+        (meaning_of (λ t. ⊥) command) result world.old world.new) }
 {
     match read_command(words) {
         Some(Command::Run(names)) => run(alloc, world, names),
-        Some(Command::Make(words)) => outcome(make_capture(alloc, world, words)),
+        Some(Command::Make(words)) => make_capture(alloc, world, words),
         Some(Command::Play(names)) => play_capture(alloc, world, names),
         Some(Command::Check(names)) => check_released(alloc, world, names),
         Some(Command::Drill(names)) => drill(alloc, world, names),
@@ -280,59 +202,13 @@ pub fn ftmb<W: World, C: Clock + Sync, G: Gate + Sync, R: AllocGlobal + Threads 
 ) -> Status
     requires room { (W.ledger world.old).given < 2 ^ 31 }
 
-    // What is asked: words that ask for no command change nothing.
+    // Words that ask for no command change nothing.
     ensures bad_words { result ≡ Status.BadWords ↔ asked words.now ≡ None }
     ensures nothing_asked { result ≡ Status.BadWords → world.new ≡ world.old }
 
-    // What Done leaves: the outputs, whole.
-    ensures done { (p : Start) → W.honest p world.new → result ≡ Status.Done → IfAsks words.now
-        (λ command. Leaves (C.may clock.now) command (W.shows p world.old) (W.shows p world.new)) }
-
-    // The promise: what was released is part of one legal run without crashes.
-    ensures headline { (p : Start) → W.honest p world.new → result ≡ Status.Done → IfAsks words.now
-        (λ command. KeepsPromiseOf command (W.shows p world.old) (W.shows p world.new)) }
-
-    // What any other answer leaves: the outputs up to a limit, those of a system that is not ready,
-    // a first part of them in their order, or nothing where an input is refused; then nothing is
-    // created either, whatever the world answered. No other file changes.
-    ensures limit { (p : Start) → W.honest p world.new → (limit : LimitKind)
-        → result ≡ Status.TooLarge limit → IfAsks words.now
-        (λ command. StopsAtLimit command limit (W.shows p world.old) (W.shows p world.new)) }
-    ensures unready { (p : Start) → W.honest p world.new → (unready : UnreadyKind)
-        → result ≡ Status.Unready unready → IfAsks words.now (λ command.
-        LeavesUnready command unready (W.shows p world.old) (W.shows p world.new)) }
-    ensures in_order { (p : Start) → W.honest p world.new → IfAsks words.now
-        (λ command. LeavesInOrder command (W.shows p world.old) (W.shows p world.new)) }
-    ensures refused { (p : Start) → W.honest p world.new
-        → IfAsks words.now (λ command. stage_in command result ≡ AtInputs
-        → KeepsShown (W.shows p world.old) (W.shows p world.new)) }
-    ensures creates_nothing { IsRefusal result
-        → (W.ledger world.new).created ≡ (W.ledger world.old).created }
-    ensures others { (p : Start) → W.honest p world.new → IfAsks words.now
-        (λ command. KeepsNames command (W.shows p world.old) (W.shows p world.new)) }
-
-    // The cause of each answer, and when the command is done.
-    ensures judged { (p : Start) → W.honest p world.new → IfAsks words.now
-        (λ command. JudgesInputsOf (W.healthy world.old) command result (W.shows p world.old)) }
-    ensures completes { W.healthy world.old → (p : Start) → W.honest p world.new
-        → IfAsks words.now (λ command. AcceptsInputsOf command (W.shows p world.old)
-        → CompletesAs command result) }
-    ensures never_fails { W.healthy world.old → ¬ (result ≡ Status.WriteFault) }
-
-    // The world's ledger: which faults rose, how many files it gave a number, that the input files
-    // were opened in the order of the words, a first part of them, and all for Done, and that the
-    // calls stay orderly.
-    ensures read_fault { result ≡ Status.ReadFault
-        → Rose (W.ledger world.old).read_faults (W.ledger world.new).read_faults }
-    ensures write_fault { result ≡ Status.WriteFault
-        → Rose (W.ledger world.old).write_faults (W.ledger world.new).write_faults }
-    ensures opens_in_order { IfAsks words.now (λ command.
-        OpensFirst (inputs_of command) (W.ledger world.old) (W.ledger world.new)) }
-    ensures opens_all { result ≡ Status.Done → IfAsks words.now (λ command.
-        OpensAll (inputs_of command) (W.ledger world.old) (W.ledger world.new)) }
-    ensures orderly { KeepsOrder (W.ledger world.old) (W.ledger world.new) }
-    ensures given { (W.ledger world.new).given ≤ (W.ledger world.old).given + 8 }
-    ensures before { (p : Start) → W.honest p world.new → W.honest p world.old }
+    // Others are answered as the command means it.
+    ensures answers { IfAsks words.now (λ command. AnswersAs W.honest W.shows W.ledger W.healthy
+        (meaning_of (C.may clock.now) command) result world.old world.new) }
 {
     match read_live_words(words) {
         Some(names) => live(rt, world, names, clock, gate),

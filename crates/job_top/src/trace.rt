@@ -1,17 +1,14 @@
-ghost use Rattle.std.specs.Prelude.{◌≡◌, ◌+◌, ◌<◌, ◌≤◌, ◌-◌, ◌^◌, Err, OnOk, IsErrOf};
+ghost use Rattle.std.specs.Prelude.{◌≡◌, ◌<◌, ◌-◌, ◌^◌, Err, OnOk, IsErrOf};
 ghost use Rattle.plain_text.specs.declared.limit.Limit.{Limit as LimitKind};
-ghost use Rattle.world_io.specs.Stream.{Rose};
-ghost use Rattle.world_io.specs.World.{Start, KeepsOrder, WritingFailed};
-ghost use Rattle.input_files.specs.Files.{OpensAll, OpensFirst};
+ghost use Rattle.world_io.specs.World.{Start, WritingFailed};
 ghost use Rattle.output_files.specs.Written.{WritesFiles};
-ghost use Rattle.run_writes.specs.Run.{CanRun, KeepsShown};
+ghost use Rattle.run_writes.specs.Run.{CanRun};
 ghost use Rattle.noted_runs.specs.Trace.{HasBegunTrace, HasStopped, HasTraced};
 ghost use Rattle.job_commands.specs.Run.{script_of, setting_for};
-ghost use Rattle.job_commands.specs.Status.{AtInputs, AtOutputs, IsRefusal, stage_of};
-ghost use Rattle.job_commands.specs.Status.{stage_of_limit};
-ghost use Rattle.job_commands.specs.Words.{run_inputs, trace_names_of, traced_run};
-ghost use Rattle.job_top.specs.Trace.{JudgesTrace, TracesInOrder, TracesToLimit, TracesWhole};
+ghost use Rattle.job_commands.specs.Words.{trace_names_of};
 ghost use Rattle.box_conf.specs.Kinds.{drop_register};
+ghost use Rattle.job_commands.specs.Answers.{AnswersAs};
+ghost use Rattle.job_top.specs.Trace.{trace_meaning};
 
 use box_conf::BoxKind;
 use job_commands::{Inputs, RunWords, Status, TraceWords, read_inputs, run_outcome};
@@ -64,31 +61,8 @@ fn trace_box<W: World>(
 /// The command `trace`: all input files are judged before the table is created.
 pub(crate) fn trace<W: World>(alloc: Global, world: &mut W, names: TraceWords<'_>) -> Status
     requires room { (W.ledger world.old).given < 2 ^ 31 }
-    ensures done { (p : Start) → W.honest p world.new → result ≡ Status.Done → TracesWhole
-        (trace_names_of names.entry) (W.shows p world.old) (W.shows p world.new) }
-    ensures limit { (p : Start) → W.honest p world.new → (limit : LimitKind)
-        → result ≡ Status.TooLarge limit → stage_of_limit limit ≡ AtOutputs → TracesToLimit
-        (trace_names_of names.entry) limit (W.shows p world.old) (W.shows p world.new) }
-    ensures judged { (p : Start) → W.honest p world.new → JudgesTrace (W.healthy world.old)
-        (trace_names_of names.entry) result (W.shows p world.old) }
-    ensures in_order { (p : Start) → W.honest p world.new → TracesInOrder
-        (trace_names_of names.entry) (W.shows p world.old) (W.shows p world.new) }
-    ensures refused { (p : Start) → W.honest p world.new → stage_of result ≡ AtInputs
-        → KeepsShown (W.shows p world.old) (W.shows p world.new) }
-    ensures creates_nothing { IsRefusal result
-        → (W.ledger world.new).created ≡ (W.ledger world.old).created }
-    ensures words { result ≡ Status.BadWords → ⊥ }
-    ensures opens_in_order { OpensFirst (run_inputs (traced_run (trace_names_of names.entry)))
-        (W.ledger world.old) (W.ledger world.new) }
-    ensures opens_all { result ≡ Status.Done → OpensAll (run_inputs (traced_run
-        (trace_names_of names.entry))) (W.ledger world.old) (W.ledger world.new) }
-    ensures orderly { KeepsOrder (W.ledger world.old) (W.ledger world.new) }
-    ensures given { (W.ledger world.new).given ≤ (W.ledger world.old).given + 4 }
-    ensures read_fault { result ≡ Status.ReadFault
-        → Rose (W.ledger world.old).read_faults (W.ledger world.new).read_faults }
-    ensures write_fault { result ≡ Status.WriteFault
-        → WritingFailed W.ledger W.healthy world.old world.new }
-    ensures before { (p : Start) → W.honest p world.new → W.honest p world.old }
+    ensures { AnswersAs W.honest W.shows W.ledger W.healthy
+        (trace_meaning (trace_names_of names.entry)) result world.old world.new }
 {
     // The outputs of the run are not written: the table stands for both.
     let run = RunWords {

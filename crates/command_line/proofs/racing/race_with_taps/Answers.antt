@@ -1,6 +1,7 @@
 use Rattle.std.proofs.Common.{◌≡◌, ◌∙◌, ℕ, inl, inr, subst}
 use Rattle.release_taps.specs.Mirrored.{IsMirroring}
-use Rattle.release_taps.specs.Split.{released_name}
+use Rattle.release_taps.specs.Split.{behind_pairs, released_name}
+use Rattle.job_top.proofs.Answered.{stays_orderly}
 use Rattle.world_told.specs.Sent.{name_of, sent_to}
 use Rattle.world_real.specs.Real.{real_ledger}
 use Rattle.command_line.proofs.Named.{named-seats}
@@ -35,4 +36,7 @@ returns-in-Err-clause-mirrors g c =
     status.refused status.memory c.in-Err.ensures.refused)
 
 pub returns-in-Ok-race_tapped-clause-orderly : goal.returns-in-Ok-race_tapped-clause-orderly
-returns-in-Ok-race_tapped-clause-orderly g c = c.in-Ok-race_tapped.ensures.answers.orderly
+returns-in-Ok-race_tapped-clause-orderly g c =
+    stays_orderly g.W.World.honest g.W.World.shows g.W.World.ledger g.W.World.healthy (g.C.Clock.may c.args.clock.now)
+    (behind_pairs _ c.args.words.now) c.in-Ok-race_tapped.run'.status c.args.world c.in-Ok-race_tapped.run'.rest.world
+    c.in-Ok-race_tapped.ensures.answers

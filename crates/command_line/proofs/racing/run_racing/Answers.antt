@@ -1,5 +1,6 @@
 use Rattle.std.proofs.Common.{◌≡◌, ◌⊎◌, ℕ, inl, refl, subst}
 use Rattle.release_taps.proofs.Counting.{one_count}
+use Rattle.job_top.proofs.Answered.{read_rose, stays_orderly, write_failed}
 use Rattle.command_line.specs.Running.{IsNotBegun, TapsMirror}
 use Rattle.world_real.specs.Real.{real_ledger}
 use Rattle.world_told.specs.Sent.{name_of, sent_to}
@@ -69,35 +70,30 @@ returns-in-Plain-clause-runs g c =
     c.requires.no_text (record {
       bad_words = c.ftmb-status.ensures.bad_words;
       nothing_asked = c.ftmb-status.ensures.nothing_asked;
-      bytes = λ p h. record {
-        done = c.ftmb-status.ensures.done p h;
-        headline = c.ftmb-status.ensures.headline p h;
-        limit = c.ftmb-status.ensures.limit p h;
-        unready = c.ftmb-status.ensures.unready p h;
-        in_order = c.ftmb-status.ensures.in_order p h;
-        refused = c.ftmb-status.ensures.refused p h;
-        others = c.ftmb-status.ensures.others p h;
-        judged = c.ftmb-status.ensures.judged p h;
-        completes = λ ok. c.ftmb-status.ensures.completes ok p h;
-      };
-      creates_nothing = c.ftmb-status.ensures.creates_nothing;
-      never_fails = c.ftmb-status.ensures.never_fails;
-      read_fault = c.ftmb-status.ensures.read_fault;
-      write_fault = c.ftmb-status.ensures.write_fault;
-      opens_in_order = c.ftmb-status.ensures.opens_in_order;
-      opens_all = c.ftmb-status.ensures.opens_all;
-      orderly = c.ftmb-status.ensures.orderly;
-      given = c.ftmb-status.ensures.given;
-      before = c.ftmb-status.ensures.before;
+      answers = c.ftmb-status.ensures.answers;
     }))
     (λ watch. absurd (never_watch c.args.words.now (c.requires.rounds c.in-Plain.ensures) watch)) c.requires.no_text
     c.in-Plain.ensures
 
 pub returns-in-Plain-clause-read_fault : goal.returns-in-Plain-clause-read_fault
-returns-in-Plain-clause-read_fault g c fault = rose_some _ _ (c.ftmb-status.ensures.read_fault fault)
+returns-in-Plain-clause-read_fault g c fault =
+    rose_some _ _ (read_rose g.W.World.honest g.W.World.shows g.W.World.ledger g.W.World.healthy (g.C.Clock.may c.args.clock.now)
+    c.args.words.now c.ftmb-status.result c.args.world c.ftmb-status.new.world
+    (record {
+      bad_words = c.ftmb-status.ensures.bad_words;
+      nothing_asked = c.ftmb-status.ensures.nothing_asked;
+      answers = c.ftmb-status.ensures.answers;
+    }) fault)
 
 pub returns-in-Plain-clause-write_fault : goal.returns-in-Plain-clause-write_fault
-returns-in-Plain-clause-write_fault g c fault = inl (rose_some _ _ (c.ftmb-status.ensures.write_fault fault))
+returns-in-Plain-clause-write_fault g c fault =
+    inl (rose_some _ _ (write_failed g.W.World.honest g.W.World.shows g.W.World.ledger g.W.World.healthy (g.C.Clock.may c.args.clock.now)
+    c.args.words.now c.ftmb-status.result c.args.world c.ftmb-status.new.world
+    (record {
+      bad_words = c.ftmb-status.ensures.bad_words;
+      nothing_asked = c.ftmb-status.ensures.nothing_asked;
+      answers = c.ftmb-status.ensures.answers;
+    }) fault).rose)
 
 pub returns-in-Plain-clause-prints : goal.returns-in-Plain-clause-prints
 returns-in-Plain-clause-prints g c asks =
@@ -113,7 +109,14 @@ pub returns-in-Plain-clause-no_command : goal.returns-in-Plain-clause-no_command
 returns-in-Plain-clause-no_command g c no_tap none text watch = c.ftmb-status.ensures.bad_words.1 none
 
 pub returns-in-Plain-clause-orderly : goal.returns-in-Plain-clause-orderly
-returns-in-Plain-clause-orderly g c = c.ftmb-status.ensures.orderly c.requires.new_world
+returns-in-Plain-clause-orderly g c =
+    stays_orderly g.W.World.honest g.W.World.shows g.W.World.ledger g.W.World.healthy (g.C.Clock.may c.args.clock.now)
+    c.args.words.now c.ftmb-status.result c.args.world c.ftmb-status.new.world
+    (record {
+      bad_words = c.ftmb-status.ensures.bad_words;
+      nothing_asked = c.ftmb-status.ensures.nothing_asked;
+      answers = c.ftmb-status.ensures.answers;
+    }) c.requires.new_world
 
 pub returns-in-Taps-clause-orderly : goal.returns-in-Taps-clause-orderly
 returns-in-Taps-clause-orderly g c = c.race_with_taps.ensures.orderly c.requires.new_world

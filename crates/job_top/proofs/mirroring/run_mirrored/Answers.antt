@@ -1,5 +1,6 @@
-use Rattle.std.proofs.Common.{◌≡◌, ℕ, ap, sym, subst}
+use Rattle.std.proofs.Common.{ℕ, ap, sym, subst}
 use Rattle.job_top.specs.Answers.{Answers}
+use Rattle.job_top.proofs.Answered.{answers_within}
 use Rattle.job_top.proofs.mirroring.run_mirrored.Goals as goal
 
 pub returns-clause-answers : goal.returns-clause-answers
@@ -10,26 +11,8 @@ returns-clause-answers g c =
     c.serial-status.new.world.world = record {
       bad_words = told.bad_words;
       nothing_asked = λ bad. ap (λ t. t.world) (told.nothing_asked bad);
-      bytes = λ p h. record {
-        done = told.done p h;
-        headline = told.headline p h;
-        limit = told.limit p h;
-        unready = told.unready p h;
-        in_order = told.in_order p h;
-        refused = told.refused p h;
-        others = told.others p h;
-        judged = told.judged p h;
-        completes = λ ok. told.completes ok p h;
-      };
-      creates_nothing = told.creates_nothing;
-      never_fails = told.never_fails;
-      read_fault = told.read_fault;
-      write_fault = told.write_fault;
-      opens_in_order = told.opens_in_order;
-      opens_all = told.opens_all;
-      orderly = told.orderly;
-      given = told.given;
-      before = told.before;
+      answers = answers_within (λ t. t.world) g.W.World.honest g.W.World.shows g.W.World.ledger g.W.World.healthy
+          c.args.world c.serial-status.new.world (λ (t : ℕ). ⊥) c.args.words.now c.serial-status.result told.answers;
     } in
     subst (λ (w : g.row.W.Denot). Answers {W = g.row.W.Denot} g.W.World.honest g.W.World.shows g.W.World.ledger
     g.W.World.healthy (λ (t : ℕ). ⊥) c.args.words.now c.serial-status.result c.args.world.world w)
