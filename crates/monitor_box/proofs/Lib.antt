@@ -2,6 +2,7 @@ pub mod CountedPackets
 pub mod OneMoveTotals
 pub mod ChangedSums
 pub mod ComingSums
+pub mod RowLemmas
 pub mod TableLemmas
 pub mod ThreadMoves
 pub mod FlowTables

@@ -2,6 +2,7 @@ pub mod Arrivals
 pub mod Boxes
 pub mod Coming
 pub mod Flows
+pub mod Held
 pub mod Lawful
 pub mod Monitor
 pub mod Shown

@@ -1,6 +1,7 @@
 //! The box `monitor`, which counts packets and bytes by flow in tables that all threads share.
 #![tactic(auto)]
 
+mod copied;
 mod counts;
 mod laws;
 mod monitor;

@@ -2,7 +2,7 @@
 use Rattle.std.proofs.Common.{◌≡◌, ◌==◌, ℕ, zero, suc, ◌+◌, ◌<◌, ◌≤◌, Bool, true, false, List, [], ◌∷◌, ◌++◌, length}
 use Rattle.std.proofs.Common.{set}
 use Rattle.std.proofs.Common.{refl, sym, ap, subst, ◌∙◌, arith, ⊎_elim, Option, Some, None, length-append}
-use Rattle.std.specs.Prelude.{◌≢◌, nat_lt, not, if◌then◌else◌}
+use Rattle.std.specs.Prelude.{◌≢◌, max, nat_lt, not, if◌then◌else◌}
 use Rattle.std.specs.List.{sum_by}
 use Rattle.std.proofs.lemmas.Bool.{eqb-true, cases_lt}
 use Rattle.std.proofs.lemmas.Bool.Decides.{nat_tests}
@@ -24,44 +24,48 @@ use Rattle.nat_tables.proofs.RowLemmas.{row_set_same, row_set_other, row_added, 
 abbrev Row : Type 0
 Row = Option (Endpoint × Slot)
 
+row_past : (rows : List Row) (at : ℕ) → length rows ≤ at → row_at rows at ≡ None
+row_past [] at past = refl
+row_past (row ∷ rows) zero past = absurd (omega arith)
+row_past (row ∷ rows) (suc at) past = row_past rows at (omega arith)
+
 -- Times and rows after a change
 
 pub live_noted : (times : List ℕ) (rows : List Row) (at time : ℕ) → AreLiveUntil times rows
     → IsLiveUntil time (row_at rows at) → AreLiveUntil (set times at time) rows
-live_noted times rows at time live later = record {
-  long = let l = live.long in let s = length-set times at time in omega arith;
-  each = λ k less. by k less (k == at) refl;
-}
+live_noted times rows at time live later k less = by (let s = length-set times at time in omega arith) (k == at) refl
   where
-    by : (k : ℕ) → k < length rows → (b : Bool) → (k == at) ≡ b
-        → IsLiveUntil (time_at (set times at time) k) (row_at rows k)
-    by k less true e =
+    by : k < length times → (b : Bool) → (k == at) ≡ b → IsLiveUntil (time_at (set times at time) k) (row_at rows k)
+    by within true e =
         let here : at ≡ k = sym (eqb-true _ _ e) in
-        let l = live.long in
         let same : time_at (set times at time) at ≡ time =
-        get_or-set_same times at time never (let inside : at < length rows = rw here less in omega arith) in
+        get_or-set_same times at time never (let inside : at < length times = rw here within in omega arith) in
         subst (λ (j : ℕ). IsLiveUntil (time_at (set times at time) j) (row_at rows j)) here (rw same later)
-    by k less false e =
+    by within false e =
         let apart : k ≢ at = (λ same. grind (arith, nat_tests)) in
-        rw (get_or-set_other times at k time never apart) (live.each k less)
+        rw (get_or-set_other times at k time never apart) (live k within)
+
+-- another mapping in a row, if there is the row
+row_put : (rows : List Row) (at time : ℕ) (row : Row) → IsLiveUntil time row
+    → IsLiveUntil time (row_at (set rows at row) at)
+row_put rows at time row live =
+    ⊎_elim (λ inside. rw (row_set_same rows at row inside) live)
+    (λ past. rw (row_past (set rows at row) at (let s = length-set rows at row in omega arith)) tt)
+    (cases_lt at (length rows))
 
 row_changed : (times : List ℕ) (rows : List Row) (at : ℕ) (row : Row) → AreLiveUntil times rows
-    → (at < length rows → IsLiveUntil (time_at times at) row) → AreLiveUntil times (set rows at row)
-row_changed times rows at row live new = record {
-  long = let l = live.long in let s = length-set rows at row in omega arith;
-  each = λ k less. by k (let s = length-set rows at row in omega arith) (k == at) refl;
-}
+    → (at < length times → IsLiveUntil (time_at times at) row) → AreLiveUntil times (set rows at row)
+row_changed times rows at row live new k less = by (k == at) refl
   where
-    by : (k : ℕ) → k < length rows → (b : Bool) → (k == at) ≡ b
-        → IsLiveUntil (time_at times k) (row_at (set rows at row) k)
-    by k less true e =
+    by : (b : Bool) → (k == at) ≡ b → IsLiveUntil (time_at times k) (row_at (set rows at row) k)
+    by true e =
         let here : at ≡ k = sym (eqb-true _ _ e) in
-        let inside : at < length rows = rw here less in
+        let inside : at < length times = rw here less in
         subst (λ (j : ℕ). IsLiveUntil (time_at times j) (row_at (set rows at row) j)) here
-        (rw (row_set_same rows at row inside) (new inside))
-    by k less false e =
+        (row_put rows at (time_at times at) row (new inside))
+    by false e =
         let apart : k ≢ at = (λ same. grind (arith, nat_tests)) in
-        rw (row_set_other rows at k row apart) (live.each k less)
+        rw (row_set_other rows at k row apart) (live k less)
 
 pub live_cleared : (times : List ℕ) (rows : List Row) (at : ℕ) → AreLiveUntil times rows
     → AreLiveUntil times (set rows at None)
@@ -73,59 +77,51 @@ pub live_refreshed : (times : List ℕ) (rows : List Row) (at now : ℕ) (own : 
 live_refreshed times rows at now own slot live is =
     row_changed times rows at (Some (own, refreshed now slot)) live
     (λ inside.
-    let old : IsLiveUntil (time_at times at) (Some (own, slot)) = rw is at (live.each at inside) in
+    let old : IsLiveUntil (time_at times at) (Some (own, slot)) = rw is at (live at inside) in
     λ k. let o = old k in omega arith)
 
 -- another mapping and its time in a row
 pub live_marked : (times : List ℕ) (rows : List Row) (at time : ℕ) (row : Row) → AreLiveUntil times rows
     → IsLiveUntil time row → AreLiveUntil (set times at time) (set rows at row)
-live_marked times rows at time row live new = record {
-  long =
-      let l = live.long in
-      let s = length-set rows at row in
-      let t = length-set times at time in omega arith;
-  each = λ k less. by k (let s = length-set rows at row in omega arith) (k == at) refl;
-}
+live_marked times rows at time row live new k less =
+    by (let s = length-set times at time in omega arith) (k == at) refl
   where
-    by : (k : ℕ) → k < length rows → (b : Bool) → (k == at) ≡ b
+    by : k < length times → (b : Bool) → (k == at) ≡ b
         → IsLiveUntil (time_at (set times at time) k) (row_at (set rows at row) k)
-    by k less true e =
+    by within true e =
         let here : at ≡ k = sym (eqb-true _ _ e) in
-        let inside : at < length rows = rw here less in
-        let l = live.long in
+        let inside : at < length times = rw here within in
         let same : time_at (set times at time) at ≡ time = get_or-set_same times at time never (omega arith) in
         subst (λ (j : ℕ). IsLiveUntil (time_at (set times at time) j) (row_at (set rows at row) j)) here
-        (rw (same, row_set_same rows at row inside) new)
-    by k less false e =
+        (rw same (row_put rows at time row new))
+    by within false e =
         let apart : k ≢ at = (λ same. grind (arith, nat_tests)) in
-        rw (get_or-set_other times at k time never apart, row_set_other rows at k row apart) (live.each k less)
+        rw (get_or-set_other times at k time never apart, row_set_other rows at k row apart) (live k within)
 
 pub live_pushed : (times : List ℕ) (rows : List Row) (at time : ℕ) (key : Endpoint) (slot : Slot)
     → AreLiveUntil times rows → length rows < length times → at ≡ length rows
     → IsLiveUntil time (Some (key, slot))
     → AreLiveUntil (set times at time) (rows ++ Some (key, slot) ∷ [])
-live_pushed times rows at time key slot live room last later = record {
-  long = let s = length-set times at time in let l = length-append rows (Some (key, slot) ∷ []) in omega arith;
-  each = λ k less. by k (let l = length-append rows (Some (key, slot) ∷ []) in omega arith) (k == at) refl;
-}
+live_pushed times rows at time key slot live room last later k less =
+    by (let s = length-set times at time in omega arith) (k == at) refl
   where
-    by : (k : ℕ) → k < length rows + 1 → (b : Bool) → (k == at) ≡ b
+    by : k < length times → (b : Bool) → (k == at) ≡ b
         → IsLiveUntil (time_at (set times at time) k) (row_at (rows ++ Some (key, slot) ∷ []) k)
-    by k less true e =
+    by within true e =
         let here : at ≡ k = sym (eqb-true _ _ e) in
         let same : time_at (set times at time) at ≡ time = get_or-set_same times at time never (omega arith) in
         let there : row_at (rows ++ Some (key, slot) ∷ []) at ≡ Some (key, slot) =
         rw last (row_added rows (Some (key, slot))) in
         subst (λ (j : ℕ). IsLiveUntil (time_at (set times at time) j) (row_at (rows ++ Some (key, slot) ∷ []) j)) here
         (rw (same, there) later)
-    by k less false e =
+    by within false e =
         let apart : k ≢ at = (λ same. grind (arith, nat_tests)) in
         let other : k ≢ length rows = (λ same. apart (same ∙ sym last)) in
-        let inside : k < length rows = (let t : (k == at) ≡ false = e in grind (arith, nat_tests)) in
-        rw (get_or-set_other times at k time never apart, row_kept rows (Some (key, slot)) k other) (live.each k inside)
+        rw (get_or-set_other times at k time never apart, row_kept rows (Some (key, slot)) k other) (live k within)
 
-pub live_none : AreLiveUntil [] []
-live_none = record { long = omega arith; each = λ at less. absurd (omega arith) }
+-- no row needs a time
+pub live_none : (rows : List Row) → AreLiveUntil [] rows
+live_none rows at less = absurd (omega arith)
 
 -- A live mapping that is not kept is before its time
 
@@ -151,17 +147,6 @@ not_idle now time (Some e) live from = by (is_kept e.1.phase) refl
         let later : nat_lt now (e.1.last + timer e.0.protocol e.1.phase) ≡ true = grind (arith, nat_tests) in
         rw (q, later) refl
 
-row_past : (rows : List Row) (at : ℕ) → length rows ≤ at → row_at rows at ≡ None
-row_past [] at past = refl
-row_past (row ∷ rows) zero past = absurd (omega arith)
-row_past (row ∷ rows) (suc at) past = row_past rows at (omega arith)
-
-pub none_found : (start now : ℕ) (times : List ℕ) (rows : List Row) → AreLiveUntil times rows
-    → AreFrom start now times → NoneIsIdle start now rows
-none_found start now times rows live from at past =
-    ⊎_elim (λ inside. not_idle now (time_at times at) (row_at rows at) (live.each at inside) (from at past))
-    (λ past. rw (row_past rows at past) refl) (cases_lt at (length rows))
-
 pub idle_inside : (now : ℕ) (rows : List Row) (at : ℕ) → row_is_idle now (row_at rows at) ≡ true → at < length rows
 idle_inside now [] at idle = absurd (cc)
 idle_inside now (row ∷ rows) zero idle = omega arith
@@ -173,9 +158,49 @@ first_found start now times rows at live first idle = record {
   from = first.from;
   idle = idle;
   others = λ k past less.
-      let inside = idle_inside now rows at idle in
-      not_idle now (time_at times k) (row_at rows k) (live.each k (omega arith)) (first.others k past less);
+      let inside = first.inside in
+      not_idle now (time_at times k) (row_at rows k) (live k (omega arith)) (first.others k past less);
 }
+
+-- where the times from this one on let no mapping be idle, the first idle one stands in a row past the times
+
+timed_live : (start now : ℕ) (times : List ℕ) (rows : List Row) → AreLiveUntil times rows → AreFrom start now times
+    → (k : ℕ) → start ≤ k → k < max (length times) start → row_is_idle now (row_at rows k) ≡ false
+timed_live start now times rows live from k past less =
+    not_idle now (time_at times k) (row_at rows k) (live k (omega arith)) (from k past)
+
+pub none_found : (start now : ℕ) (times : List ℕ) (rows : List Row) → AreLiveUntil times rows
+    → AreFrom start now times → NoneIsIdle (max (length times) start) now rows → NoneIsIdle start now rows
+none_found start now times rows live from none at past =
+    ⊎_elim (λ timed. timed_live start now times rows live from at past timed) (λ past. none at past)
+    (cases_lt at (max (length times) start))
+
+pub later_found : (start now : ℕ) (times : List ℕ) (rows : List Row) (at : ℕ) → AreLiveUntil times rows
+    → AreFrom start now times → IsFirstIdle (max (length times) start) now rows at → IsFirstIdle start now rows at
+later_found start now times rows at live from first = record {
+  from = let f = first.from in omega arith;
+  idle = first.idle;
+  others = λ k past less.
+      ⊎_elim (λ timed. timed_live start now times rows live from k past timed) (λ later. first.others k later less)
+      (cases_lt k (max (length times) start));
+}
+
+-- one more row that is not idle, and the end of the rows
+abbrev pub NoneSoFar : ℕ → ℕ → ℕ → List Row → Type 0
+NoneSoFar start at now rows = (k : ℕ) → start ≤ k → k < at → row_is_idle now (row_at rows k) ≡ false
+
+pub none_more : (start at now : ℕ) (rows : List Row) → NoneSoFar start at now rows
+    → row_is_idle now (row_at rows at) ≡ false → NoneSoFar start (at + 1) now rows
+none_more start at now rows none here k past less = by (k == at) refl
+  where
+    by : (b : Bool) → (k == at) ≡ b → row_is_idle now (row_at rows k) ≡ false
+    by true e = subst (λ (j : ℕ). row_is_idle now (row_at rows j) ≡ false) (sym (eqb-true _ _ e)) here
+    by false e = none k past (grind (arith, nat_tests))
+
+pub none_left : (start at now : ℕ) (rows : List Row) → NoneSoFar start at now rows → length rows ≤ at
+    → NoneIsIdle start now rows
+none_left start at now rows none all k past =
+    ⊎_elim (λ less. none k past less) (λ later. rw (row_past rows k (omega arith)) refl) (cases_lt k at)
 
 pub none_is : (now : ℕ) (rows : List Row) → NoneIsIdle 0 now rows → first_idle now (present rows) ≡ None
 none_is now [] none = refl

@@ -12,10 +12,9 @@ abbrev pub IsLiveUntil : ℕ → Option (Endpoint × Slot) → Type 0
 IsLiveUntil time None = Unit {0}
 IsLiveUntil time (Some e) = is_kept e.1.phase ≡ false → time < e.1.last + timer e.0.protocol e.1.phase
 
--- each row has a time up to which its mapping is live
-pub record AreLiveUntil (times : List ℕ) (rows : List (Option (Endpoint × Slot))) : Type 0 where
-  pub long : length rows ≤ length times
-  pub each : (at : ℕ) → at < length rows → IsLiveUntil (time_at times at) (row_at rows at)
+-- the mapping of each row that has a time is live up to it
+abbrev pub AreLiveUntil : List ℕ → List (Option (Endpoint × Slot)) → Type 0
+AreLiveUntil times rows = (at : ℕ) → at < length times → IsLiveUntil (time_at times at) (row_at rows at)
 
 abbrev pub row_is_idle : ℕ → Option (Endpoint × Slot) → Bool
 row_is_idle now None = false

@@ -23,8 +23,9 @@ use std::marker::Model;
 #[derive(Debug, Drop)]
 pub struct Forward {
     slots: FirstSeen<Endpoint, Slot>,
-    /// For each row a time up to which its mapping is live. A use makes it later, which is noted only when an idle
-    /// mapping is looked for. A segment may make it earlier, which is noted at once.
+    /// For each row a time up to which its mapping is live, or no times: then each row is looked at. A use makes it
+    /// later, which is noted only when an idle mapping is looked for. A segment may make it earlier, which is noted at
+    /// once.
     live_until: Times,
     alloc: Global,
 }
@@ -74,6 +75,19 @@ fn live_until(row: Option<(Endpoint, Slot)>) -> u64
     }
 }
 
+/// As `first_idle`, by looking at each row.
+fn scan(slots: &FirstSeen<Endpoint, Slot>, start: usize, now: u64) -> Option<usize>
+    ensures { MatchOption result (NoneIsIdle start now slots.now)
+        (λ at. IsFirstIdle start now slots.now at) }
+{
+    for at in start..slots.rows() {
+        if is_idle(slots.row(at), now) {
+            return Some(at);
+        }
+    }
+    None
+}
+
 /// The row of the first mapping that is idle, of those in this row and the later ones. What was noted of the rows
 /// before it, and is too early, is corrected.
 fn first_idle(
@@ -94,7 +108,7 @@ fn first_idle(
         }
         live.set(at, live_until(row));
     }
-    None
+    scan(slots, live.len().max(start), now)
 }
 
 /// The first mapping of the endpoint's host that is idle. It looks at rows with an idle mapping alone.
@@ -214,7 +228,7 @@ impl Forward {
         if let Some((at, slot)) = self.slots.find(key) {
             let marked = slot.marked(seconds, segment);
             self.slots.put(at, marked);
-            self.live_until.set(at, marked.live_until(key));
+            self.live_until.note(at, marked.live_until(key));
         }
     }
 
@@ -225,7 +239,7 @@ impl Forward {
         if let Some((at, slot)) = self.slots.find(key) {
             let later = slot.in_phase(phase);
             self.slots.put(at, later);
-            self.live_until.set(at, later.live_until(key));
+            self.live_until.note(at, later.live_until(key));
         }
     }
 
@@ -249,7 +263,7 @@ impl Forward {
         let at = first_idle(&self.slots, &mut self.live_until, 0, now)?;
         let (key, slot) = self.slots.row(at)?;
         self.slots.clear(at);
-        self.live_until.set(at, u64::MAX);
+        self.live_until.note(at, u64::MAX);
         Some((key, slot))
     }
 
@@ -382,7 +396,7 @@ impl Forward {
         if self.slots.is_indexed() {
             return Ok(Forward {
                 slots: self.slots.copy(self.alloc)?,
-                live_until: self.live_until.copy(self.alloc)?,
+                live_until: Times::new(self.alloc),
                 alloc: self.alloc,
             });
         }

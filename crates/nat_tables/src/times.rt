@@ -103,24 +103,6 @@ impl Times {
         })
     }
 
-    /// The same times.
-    pub(crate) fn copy(&self, alloc: Global) -> Result<Self, NoMemory>
-        ensures { IfOk result (λ copy. copy ≡ self.now) }
-    {
-        let times = Vec::from_slice(alloc, &self.times)?;
-        let Pairs::Of(pairs) = &self.pairs else {
-            return Ok(Times {
-                times,
-                pairs: Pairs::Alone,
-            });
-        };
-        let pairs = pairs.copy(alloc)?;
-        Ok(Times {
-            times,
-            pairs: Pairs::Of(Box::new(alloc, pairs)?),
-        })
-    }
-
     /// How many times there are.
     pub(crate) fn len(&self) -> usize
         ensures { result ≡ length self.now }
@@ -146,6 +128,15 @@ impl Times {
             if pairs.time(at / 2) != earlier {
                 pairs.set(at / 2, earlier);
             }
+        }
+    }
+
+    /// As `set`. It changes nothing where there is no time at the index.
+    pub(crate) fn note(&mut self, at: usize, time: u64)
+        ensures { self.new ≡ set self.old at time }
+    {
+        if at < self.len() {
+            self.set(at, time);
         }
     }
 

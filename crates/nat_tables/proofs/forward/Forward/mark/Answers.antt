@@ -1,19 +1,12 @@
-use Rattle.std.proofs.Common.{◌≡◌, ◌∙◌, sym, refl, subst, Some, arith}
+use Rattle.std.proofs.Common.{◌≡◌, ◌∙◌, sym, refl, subst, Some}
 use Rattle.nat_tables.specs.declared.entries.Endpoint.{Endpoint}
 use Rattle.nat_tables.specs.Forwards.{slot_of, marked}
 use Rattle.nat_tables.specs.Idling.{IsLiveUntil}
 use Rattle.nat_tables.specs.Rows.{present}
 use Rattle.nat_tables.proofs.TableLemmas.{noted_by, slot_found_by, same_by}
-use Rattle.nat_tables.proofs.RowLemmas.{row_inside}
 use Rattle.nat_tables.proofs.IdleLemmas.{live_marked, unmarked}
 use Rattle.nat_tables.proofs.RowWords.{derived, stands_inserted, stands_lookup, absent_lookup}
 use Rattle.nat_tables.proofs.forward.Forward.mark.Goals as goal
-
-pub set-requires : goal.set-requires
-set-requires c =
-    let stands = c.in-Some.ensures in
-    let inside = row_inside c.self.inside.slots c.in-Some.at (stands.own, c.in-Some.slot) stands.row in
-    let long = c.self.invariant.long in omega arith
 
 pub invariant_of-self : goal.invariant_of-self
 invariant_of-self c =
@@ -21,7 +14,7 @@ invariant_of-self c =
     let own : c.args.key.now ≡ stands.own = same_by derived (λ a b. refl) c.args.key.now stands.own stands.same in
     let live : IsLiveUntil c.live_until.result (Some (c.args.key.now, c.marked-marked.result)) =
     c.live_until.ensures.live in
-    rw (c.set.ensures, c.put.ensures (stands.own, c.in-Some.slot) stands.row)
+    rw (c.note.ensures, c.put.ensures (stands.own, c.in-Some.slot) stands.row)
     (live_marked _ _ c.in-Some.at _ (Some (stands.own, c.marked-marked.result)) c.self.invariant
     (subst (λ (x : Endpoint). IsLiveUntil c.live_until.result (Some (x, c.marked-marked.result))) own live))
 

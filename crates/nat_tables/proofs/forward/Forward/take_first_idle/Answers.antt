@@ -1,4 +1,4 @@
-use Rattle.std.proofs.Common.{sym, refl, ap, Some, arith}
+use Rattle.std.proofs.Common.{sym, refl, ap, Some}
 use Rattle.nat_tables.proofs.RowLemmas.{row_inside, row_set_same}
 use Rattle.nat_tables.proofs.IdleLemmas.{live_cleared, live_noted, first_is, first_removed, none_is, idle_some}
 use Rattle.nat_tables.proofs.forward.Forward.take_first_idle.Goals as goal
@@ -12,18 +12,12 @@ pub returns-in_err-key : goal.returns-in_err-key
 returns-in_err-key c =
     absurd (idle_some c.args.now c.self.inside.slots c.in_ok-at.at c.in_ok-at.ensures.first c.in_err-key.ensures)
 
-pub set-requires : goal.set-requires
-set-requires c =
-    let inside =
-    row_inside c.self.inside.slots c.in_ok-at.at (c.in_ok-key.key, c.in_ok-key.slot) (sym c.in_ok-key.ensures) in
-    let long = c.in_ok-at.ensures.live.long in omega arith
-
 pub invariant_of-self-2 : goal.invariant_of-self-2
 invariant_of-self-2 c =
     let rows = c.self.inside.slots in
     let at = c.in_ok-at.at in
     let inside = row_inside rows at (c.in_ok-key.key, c.in_ok-key.slot) (sym c.in_ok-key.ensures) in
-    rw (c.set.ensures, c.clear.ensures)
+    rw (c.note.ensures, c.clear.ensures)
     (live_noted _ _ at _ (live_cleared _ rows at c.in_ok-at.ensures.live) (rw (row_set_same rows at _ inside) tt))
 
 pub returns : goal.returns

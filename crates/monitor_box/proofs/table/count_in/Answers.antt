@@ -1,6 +1,6 @@
 use Rattle.std.proofs.Common.{◌∙◌, refl}
 use Rattle.monitor_box.proofs.TableLemmas.{counted_by}
-use Rattle.monitor_box.proofs.table.FlowTable.count.Goals as goal
+use Rattle.monitor_box.proofs.table.count_in.Goals as goal
 
 pub returns-clause-ok : goal.returns-clause-ok
 returns-clause-ok c =
@@ -11,5 +11,4 @@ returns-clause-ok c =
       c.unwrap_or-earlier.ensures,
       known,
       c.new.ensures,
-      ← c.self.view_is,
-    ) (counted_by _ (λ a b. refl) c.args.flow c.args.length c.self.inside.counts.entries)
+    ) (counted_by _ (λ a b. refl) c.args.flow c.args.length _)
