@@ -113,7 +113,8 @@ module _ (healthy : Type 0) (names : DrillNames) (inputs : FirstInputs) (a c : S
       → Ends (drill_meaning names) healthy (run_outcome r) a c
   drill_ends r never run limit begun = record {
     says = run_says (drill_meaning names) a c r (whole r run) (λ l is.
-        let h = limit l is in stops_late l a c _ (drill_stops_are (drill_setting names inputs) names.every l h.released h.stops) (inputs, accepted, h));
+        let h = limit l is in stops_late l a c _
+        (drill_stops_are (drill_setting names inputs) names.every l h.released h.stops) (inputs, accepted, h));
     in_order = inr (inputs, accepted, begun);
     judged = drill_judged r never run limit;
   }

@@ -121,7 +121,8 @@ module _ (healthy : Type 0) (names : PictureNames) (inputs : Inputs) (a c : Show
       → Ends (picture_meaning names) healthy (run_outcome r) a c
   picture_ends r never run limit begun = record {
     says = run_says (picture_meaning names) a c r (whole r run) (λ l is.
-        let h = limit l is in stops_late l a c _ (stops_are (setting_for inputs) h.stops.there h.stops.event l h.stops.world h.stops.stops) (inputs, accepted, h));
+        let h = limit l is in stops_late l a c _
+        (stops_are (setting_for inputs) h.stops.there h.stops.event l h.stops.world h.stops.stops) (inputs, accepted, h));
     in_order = inr (inputs, accepted, begun);
     judged = picture_judged r never run limit;
   }

@@ -97,7 +97,8 @@ module _ (healthy : Type 0) (names : TraceNames) (inputs : Inputs) (a c : Shown)
       → Ends (trace_meaning names) healthy (run_outcome r) a c
   trace_ends r never run limit begun = record {
     says = run_says (trace_meaning names) a c r (whole r run) (λ l is.
-        let h = limit l is in stops_late l a c _ (stops_are (setting_for inputs) h.stops.there h.stops.event l h.stops.world h.stops.stops) (inputs, accepted, h));
+        let h = limit l is in stops_late l a c _
+        (stops_are (setting_for inputs) h.stops.there h.stops.event l h.stops.world h.stops.stops) (inputs, accepted, h));
     in_order = inr (inputs, accepted, begun);
     judged = trace_judged r never run limit;
   }

@@ -87,7 +87,8 @@ returns-in-Plain-clause-read_fault g c fault =
 
 pub returns-in-Plain-clause-write_fault : goal.returns-in-Plain-clause-write_fault
 returns-in-Plain-clause-write_fault g c fault =
-    inl (rose_some _ _ (write_failed g.W.World.honest g.W.World.shows g.W.World.ledger g.W.World.healthy (g.C.Clock.may c.args.clock.now)
+    inl (rose_some _ _
+    (write_failed g.W.World.honest g.W.World.shows g.W.World.ledger g.W.World.healthy (g.C.Clock.may c.args.clock.now)
     c.args.words.now c.ftmb-status.result c.args.world c.ftmb-status.new.world
     (record {
       bad_words = c.ftmb-status.ensures.bad_words;

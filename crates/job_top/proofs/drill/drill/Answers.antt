@@ -40,7 +40,8 @@ returns-in-Err g c =
     let names = drill_names_of c.args.names in
     let h = g.W.World.healthy c.args.world.now in
     let is = c.in-Err.ensures in
-    refused_answers (drill_meaning names) (drill_usual names) _ g.W.World.shows _ g.W.World.healthy _ _ is.only_reads c.in-Err.status
+    refused_answers (drill_meaning names) (drill_usual names) _ g.W.World.shows _ g.W.World.healthy _ _ is.only_reads
+    c.in-Err.status
     is.quiet (λ e. is.cause (ap Err e))
     (λ p q. drill_refused h names c.in-Err.status (g.W.World.shows p c.args.world.now) (is.judged p q)) is.stage
     (λ p q limit large at same. stops_early limit _ _ _ at same) is.keeps is.before

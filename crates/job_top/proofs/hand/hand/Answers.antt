@@ -21,7 +21,8 @@ returns-in-Ok g c =
     let reads = c.in-Ok.ensures in
     let does = c.hand_box.ensures in
     rw c.hand_outcome.ensures
-    (accepted_answers (hand_meaning names) (hand_usual names) _ g.W.World.shows g.W.World.ledger g.W.World.healthy c.args.world.now _
+    (accepted_answers (hand_meaning names) (hand_usual names) _ g.W.World.shows g.W.World.ledger g.W.World.healthy
+    c.args.world.now _
     reads.only_reads 2 c.hand_box.new.world reads.opened does.writes_files _ (search rules)
     (hand_counts g.W.World.ledger g.W.World.healthy names c.args.world.now c.hand_box.new.world c.hand_box.result
     (does.writes_files.ledger.opened_names ∙ reads.opened)
@@ -50,7 +51,8 @@ returns-in-Err g c =
     let names = hand_names_of c.args.names in
     let h = g.W.World.healthy c.args.world.now in
     let is = c.in-Err.ensures in
-    refused_answers (hand_meaning names) (hand_usual names) _ g.W.World.shows _ g.W.World.healthy _ _ is.only_reads c.in-Err.status
+    refused_answers (hand_meaning names) (hand_usual names) _ g.W.World.shows _ g.W.World.healthy _ _ is.only_reads
+    c.in-Err.status
     is.quiet (λ e. is.cause (ap Err e))
     (λ p q. hand_refused h names c.in-Err.status (g.W.World.shows p c.args.world.now) is.quiet (is.stage p q)
     (is.judged p q)) is.stage

@@ -20,7 +20,8 @@ returns-in-Ok g c =
     let reads = c.in-Ok.ensures in
     let does = c.live_box.ensures in
     rw c.run_outcome.ensures
-    (run_answers (live_meaning may names) (live_usual may names) _ g.W.World.shows g.W.World.ledger g.W.World.healthy c.args.world.now _
+    (run_answers (live_meaning may names) (live_usual may names) _ g.W.World.shows g.W.World.ledger g.W.World.healthy
+    c.args.world.now _
     reads.only_reads 3 c.live_box.new.world reads.opened does.writes_files c.live_box.result (search rules) does.cause
     (λ p q.
     let q1 = does.before p q in
@@ -44,7 +45,8 @@ returns-in-Err g c =
     let names = live_names_of c.args.names in
     let h = g.W.World.healthy c.args.world.now in
     let is = c.in-Err.ensures in
-    refused_answers (live_meaning may names) (live_usual may names) _ g.W.World.shows _ g.W.World.healthy _ _ is.only_reads c.in-Err.status
+    refused_answers (live_meaning may names) (live_usual may names) _ g.W.World.shows _ g.W.World.healthy _ _
+    is.only_reads c.in-Err.status
     is.quiet (λ e. is.cause (ap Err e))
     (λ p q. live_refused h names c.in-Err.status (g.W.World.shows p c.args.world.now) (is.judged p q)) is.stage
     (λ p q limit large at same.

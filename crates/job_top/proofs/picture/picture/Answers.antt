@@ -16,7 +16,8 @@ returns-in-Ok g c =
     let reads = c.in-Ok.ensures in
     let does = c.draw_box.ensures in
     rw c.run_outcome.ensures
-    (run_answers (picture_meaning names) (picture_usual names) _ g.W.World.shows g.W.World.ledger g.W.World.healthy c.args.world.now _
+    (run_answers (picture_meaning names) (picture_usual names) _ g.W.World.shows g.W.World.ledger g.W.World.healthy
+    c.args.world.now _
     reads.only_reads 1 c.draw_box.new.world reads.opened does.writes_files c.draw_box.result (search rules) does.cause
     (λ p q.
     let q1 = does.before p q in
@@ -38,7 +39,8 @@ pub returns-in-Err : goal.returns-in-Err
 returns-in-Err g c =
     let names = picture_names_of c.args.names in
     let is = c.in-Err.ensures in
-    refused_answers (picture_meaning names) (picture_usual names) _ g.W.World.shows _ g.W.World.healthy _ _ is.only_reads c.in-Err.status
+    refused_answers (picture_meaning names) (picture_usual names) _ g.W.World.shows _ g.W.World.healthy _ _
+    is.only_reads c.in-Err.status
     is.quiet (λ e. is.cause (ap Err e))
     is.judged is.stage
     (λ p q limit large at same. stops_early limit _ _ _ at same) is.keeps is.before

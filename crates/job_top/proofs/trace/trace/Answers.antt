@@ -40,7 +40,8 @@ returns-in-Err g c =
     let names = trace_names_of c.args.names in
     let h = g.W.World.healthy c.args.world.now in
     let is = c.in-Err.ensures in
-    refused_answers (trace_meaning names) (trace_usual names) _ g.W.World.shows _ g.W.World.healthy _ _ is.only_reads c.in-Err.status
+    refused_answers (trace_meaning names) (trace_usual names) _ g.W.World.shows _ g.W.World.healthy _ _ is.only_reads
+    c.in-Err.status
     is.quiet (λ e. is.cause (ap Err e))
     (λ p q. trace_refused h names c.in-Err.status (g.W.World.shows p c.args.world.now) is.quiet (is.stage p q)
     (is.judged p q)) is.stage
