@@ -11,7 +11,7 @@ use Rattle.job_commands.specs.Words.{LiveNames, are_apart, live_names, live_with
 use Rattle.job_commands.specs.Answers.{AnswersAs}
 use Rattle.job_commands.specs.Meanings.{CommandMeaning}
 use Rattle.job_top.specs.Answers.{Answers}
-use Rattle.job_top.proofs.Answered.{creates_nothing, few_given, honest_before, read_rose, write_failed}
+use Rattle.job_top.proofs.Answered.{creates_nothing, honest_before, read_rose, write_failed}
 use Rattle.job_top.proofs.Lives.{mean_any}
 use Rattle.release_taps.specs.Split.{behind_pairs}
 use Rattle.command_line.specs.Performing.{PerformsIn}
@@ -81,7 +81,7 @@ module _ {W : Type 0} (honest : Start → W → Type 0) (shows : Start → W →
     read_fault = read_rose honest shows ledger healthy may words status old new answers;
     write_fault = λ fault. (write_failed honest shows ledger healthy may words status old new answers fault).rose;
     opens_nothing = λ none. ap (λ (w : W). (ledger w).opened_names) (answers.nothing_asked (answers.bad_words.1 none));
-    given = few_given honest shows ledger healthy may words status old new answers;
+    given = answers.given;
     before = honest_before honest shows ledger healthy may words status old new answers;
   }
 
@@ -100,6 +100,7 @@ module _ {W X : Type 0} (honest : Start → W → Type 0) (shows : Start → W �
     bad_words = said.bad_words;
     nothing_asked = said.nothing_asked;
     answers = mean_any Means may some none said.answers;
+    given = said.given;
   }
 
   any_performed : live_names words ≡ None

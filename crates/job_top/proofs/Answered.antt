@@ -1,5 +1,5 @@
 -- What is so of each answer of the top call, whatever the words ask for.
-use Rattle.std.proofs.Common.{◌≡◌, ◌+◌, ◌≤◌, ℕ, List, arith, ap, refl, sym, ◌∙◌, subst, Option, None, Some}
+use Rattle.std.proofs.Common.{◌≡◌, ℕ, List, ap, refl, sym, ◌∙◌, subst, Option, None, Some}
 use Rattle.std.specs.Prelude.{IfSome}
 use Rattle.world_io.specs.Stream.{Rose}
 use Rattle.world_io.specs.World.{Start, Shown, Ledger, KeepsOrder, WritingFailed}
@@ -9,24 +9,10 @@ use Rattle.job_commands.specs.declared.status.Status.TheVariants.{NoMemory, BadI
 use Rattle.job_commands.specs.Answers.{AnswersAs, Counts}
 use Rattle.job_commands.specs.Meanings.{CommandMeaning}
 use Rattle.job_commands.specs.Status.{IsRefusal}
-use Rattle.job_commands.specs.Words.{Asked, Runs, Lives, Makes, Plays, Checks, Drills, Traces, Draws, Chains, Hands}
-use Rattle.job_commands.specs.Words.{IfAsks, Resumes, asked}
+use Rattle.job_commands.specs.Words.{Asked}
+use Rattle.job_commands.specs.Words.{IfAsks, asked}
 use Rattle.job_top.specs.Answers.{Answers}
 use Rattle.job_top.specs.Commands.{meaning_of}
-
--- no command has more than eight files
-few_files : (may : ℕ → Type 0) (command : Asked) → (meaning_of may command).files ≤ 8
-few_files may (Runs names) = omega arith
-few_files may (Lives names) = omega arith
-few_files may (Makes names) = omega arith
-few_files may (Plays names) = omega arith
-few_files may (Checks names) = omega arith
-few_files may (Drills names) = omega arith
-few_files may (Traces names) = omega arith
-few_files may (Draws names) = omega arith
-few_files may (Chains names) = omega arith
-few_files may (Hands names) = omega arith
-few_files may (Resumes names) = omega arith
 
 module _ {W : Type 0} (ledger : W → Ledger) (healthy : W → Type 0) (command : CommandMeaning) (old new : W) where
   refused_created : (status : Status) → Counts ledger healthy command status old new → IsRefusal status
@@ -81,11 +67,6 @@ module _ {W : Type 0} (honest : Start → W → Type 0) (shows : Start → W →
   stays_orderly = either (KeepsOrder (ledger old) (ledger new))
       (λ bad none. ap (λ (w : W). (ledger w).orderly) (all.nothing_asked bad))
       (λ command answers. answers.orderly)
-
-  pub few_given : (ledger new).given ≤ (ledger old).given + 8
-  few_given = either ((ledger new).given ≤ (ledger old).given + 8)
-      (λ bad. let same = ap (λ (w : W). (ledger w).given) (all.nothing_asked bad) in omega (arith, same))
-      (λ command answers. omega (arith, answers.given, few_files may command))
 
   pub honest_before : (p : Start) → honest p new → honest p old
   honest_before p q = either (honest p old) (λ bad. subst (λ (w : W). honest p w) (all.nothing_asked bad) q)

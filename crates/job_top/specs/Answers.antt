@@ -1,5 +1,5 @@
 -- What the top call promises of words, from the world before to the world after.
-use Rattle.std.specs.Prelude.{◌≡◌, ◌↔◌, ℕ, List, None}
+use Rattle.std.specs.Prelude.{◌≡◌, ◌+◌, ◌≤◌, ◌↔◌, ℕ, List, None}
 use Rattle.world_io.specs.World.{Start, Shown, Ledger}
 use Rattle.job_commands.specs.declared.status.Status.{Status}
 use Rattle.job_commands.specs.declared.status.Status.TheVariants.{BadWords}
@@ -21,3 +21,5 @@ pub record Answers {W : Type 0} (honest : Start → W → Type 0) (shows : Start
   -- others are answered as the command means it
   pub answers : IfAsks words (λ command.
       AnswersAs honest shows ledger healthy (meaning_of may command) status old new)
+  -- and at most eight numbers are given
+  pub given : (ledger new).given ≤ (ledger old).given + 8

@@ -1,4 +1,4 @@
-ghost use Rattle.std.specs.Prelude.{◌≡◌, ◌+◌, ◌<◌, ◌-◌, ◌^◌, ◌↔◌, None, Err, OnOk};
+ghost use Rattle.std.specs.Prelude.{◌≡◌, ◌+◌, ◌<◌, ◌≤◌, ◌-◌, ◌^◌, ◌↔◌, None, Err, OnOk};
 ghost use Rattle.std.specs.Prelude.{IsErrOf};
 ghost use Rattle.plain_text.specs.declared.limit.Limit.{Limit as LimitKind};
 ghost use Rattle.output_files.specs.Written.{WritesFiles};
@@ -104,6 +104,9 @@ pub fn serial<W: World>(alloc: Global, words: &[Text], world: &mut W) -> Status
     // Others are answered as the command means it.
     ensures answers { IfAsks words.now (λ command. AnswersAs W.honest W.shows W.ledger W.healthy
         (meaning_of (λ t. ⊥) command) result world.old world.new) }
+
+    // It leaves room for further commands.
+    ensures given { (W.ledger world.new).given ≤ (W.ledger world.old).given + 8 }
 {
     match read_command(words) {
         Some(Command::Run(names)) => run(alloc, world, names),
@@ -209,6 +212,9 @@ pub fn ftmb<W: World, C: Clock + Sync, G: Gate + Sync, R: AllocGlobal + Threads 
     // Others are answered as the command means it.
     ensures answers { IfAsks words.now (λ command. AnswersAs W.honest W.shows W.ledger W.healthy
         (meaning_of (C.may clock.now) command) result world.old world.new) }
+
+    // It leaves room for further commands.
+    ensures given { (W.ledger world.new).given ≤ (W.ledger world.old).given + 8 }
 {
     match read_live_words(words) {
         Some(names) => live(rt, world, names, clock, gate),

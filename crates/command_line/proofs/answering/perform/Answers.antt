@@ -1,5 +1,5 @@
 use Rattle.std.proofs.Common.{ℕ, sym, ◌∙◌}
-use Rattle.job_top.proofs.Answered.{creates_nothing, few_given, honest_before, read_rose, stays_orderly, write_failed}
+use Rattle.job_top.proofs.Answered.{creates_nothing, honest_before, read_rose, stays_orderly, write_failed}
 use Rattle.command_line.proofs.NoCommand.{asks_nothing, if_none, prints_nothing}
 use Rattle.command_line.proofs.answering.perform.Goals as goal
 
@@ -27,6 +27,7 @@ returns-in-None-clause-creates_nothing g c e =
       bad_words = c.serial.ensures.bad_words;
       nothing_asked = c.serial.ensures.nothing_asked;
       answers = c.serial.ensures.answers;
+      given = c.serial.ensures.given;
     }) e
 
 pub returns-in-None-clause-orderly : goal.returns-in-None-clause-orderly
@@ -37,16 +38,7 @@ returns-in-None-clause-orderly g c =
       bad_words = c.serial.ensures.bad_words;
       nothing_asked = c.serial.ensures.nothing_asked;
       answers = c.serial.ensures.answers;
-    })
-
-pub returns-in-None-clause-given : goal.returns-in-None-clause-given
-returns-in-None-clause-given g c =
-    few_given g.W.World.honest g.W.World.shows g.W.World.ledger g.W.World.healthy (λ (t : ℕ). ⊥)
-    c.args.words.now c.serial.result c.args.world.now c.serial.new.world
-    (record {
-      bad_words = c.serial.ensures.bad_words;
-      nothing_asked = c.serial.ensures.nothing_asked;
-      answers = c.serial.ensures.answers;
+      given = c.serial.ensures.given;
     })
 
 pub returns-in-None-clause-read_fault : goal.returns-in-None-clause-read_fault
@@ -57,6 +49,7 @@ returns-in-None-clause-read_fault g c e =
       bad_words = c.serial.ensures.bad_words;
       nothing_asked = c.serial.ensures.nothing_asked;
       answers = c.serial.ensures.answers;
+      given = c.serial.ensures.given;
     }) e
 
 pub returns-in-None-clause-write_fault : goal.returns-in-None-clause-write_fault
@@ -67,6 +60,7 @@ returns-in-None-clause-write_fault g c e =
       bad_words = c.serial.ensures.bad_words;
       nothing_asked = c.serial.ensures.nothing_asked;
       answers = c.serial.ensures.answers;
+      given = c.serial.ensures.given;
     }) e
 
 pub returns-in-None-clause-before : goal.returns-in-None-clause-before
@@ -77,4 +71,5 @@ returns-in-None-clause-before g c p q =
       bad_words = c.serial.ensures.bad_words;
       nothing_asked = c.serial.ensures.nothing_asked;
       answers = c.serial.ensures.answers;
+      given = c.serial.ensures.given;
     }) p q

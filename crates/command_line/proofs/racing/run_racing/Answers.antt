@@ -71,6 +71,7 @@ returns-in-Plain-clause-runs g c =
       bad_words = c.ftmb-status.ensures.bad_words;
       nothing_asked = c.ftmb-status.ensures.nothing_asked;
       answers = c.ftmb-status.ensures.answers;
+      given = c.ftmb-status.ensures.given;
     }))
     (λ watch. absurd (never_watch c.args.words.now (c.requires.rounds c.in-Plain.ensures) watch)) c.requires.no_text
     c.in-Plain.ensures
@@ -83,6 +84,7 @@ returns-in-Plain-clause-read_fault g c fault =
       bad_words = c.ftmb-status.ensures.bad_words;
       nothing_asked = c.ftmb-status.ensures.nothing_asked;
       answers = c.ftmb-status.ensures.answers;
+      given = c.ftmb-status.ensures.given;
     }) fault)
 
 pub returns-in-Plain-clause-write_fault : goal.returns-in-Plain-clause-write_fault
@@ -94,6 +96,7 @@ returns-in-Plain-clause-write_fault g c fault =
       bad_words = c.ftmb-status.ensures.bad_words;
       nothing_asked = c.ftmb-status.ensures.nothing_asked;
       answers = c.ftmb-status.ensures.answers;
+      given = c.ftmb-status.ensures.given;
     }) fault).rose)
 
 pub returns-in-Plain-clause-prints : goal.returns-in-Plain-clause-prints
@@ -117,6 +120,7 @@ returns-in-Plain-clause-orderly g c =
       bad_words = c.ftmb-status.ensures.bad_words;
       nothing_asked = c.ftmb-status.ensures.nothing_asked;
       answers = c.ftmb-status.ensures.answers;
+      given = c.ftmb-status.ensures.given;
     }) c.requires.new_world
 
 pub returns-in-Taps-clause-orderly : goal.returns-in-Taps-clause-orderly

@@ -13,6 +13,7 @@ returns-clause-answers g c =
       nothing_asked = λ bad. ap (λ t. t.world) (told.nothing_asked bad);
       answers = answers_within (λ t. t.world) g.W.World.honest g.W.World.shows g.W.World.ledger g.W.World.healthy
           c.args.world c.serial-status.new.world (λ (t : ℕ). ⊥) c.args.words.now c.serial-status.result told.answers;
+      given = told.given;
     } in
     subst (λ (w : g.row.W.Denot). Answers {W = g.row.W.Denot} g.W.World.honest g.W.World.shows g.W.World.ledger
     g.W.World.healthy (λ (t : ℕ). ⊥) c.args.words.now c.serial-status.result c.args.world.world w)

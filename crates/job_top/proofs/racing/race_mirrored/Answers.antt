@@ -14,6 +14,7 @@ returns-clause-answers g c =
       answers = answers_within (λ t. t.world) g.W.World.honest g.W.World.shows g.W.World.ledger g.W.World.healthy
           c.args.world c.ftmb-status.new.world (g.C.Clock.may c.args.clock.now) c.args.words.now c.ftmb-status.result
           told.answers;
+      given = told.given;
     } in
     subst (λ (w : g.row.W.Denot). Answers {W = g.row.W.Denot} g.W.World.honest g.W.World.shows g.W.World.ledger
     g.W.World.healthy (g.C.Clock.may c.args.clock.now) c.args.words.now c.ftmb-status.result c.args.world.world w)

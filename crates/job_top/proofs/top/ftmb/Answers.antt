@@ -1,3 +1,4 @@
+use Rattle.std.proofs.Common.{arith}
 use Rattle.job_commands.specs.Answers.{AnswersAs}
 use Rattle.job_commands.specs.Meanings.{CommandMeaning}
 use Rattle.job_commands.specs.Words.{live_names_of}
@@ -16,6 +17,9 @@ live-requires-clause-apart g c κs within = record {
 pub returns-in-Some-clause-answers : goal.returns-in-Some-clause-answers
 returns-in-Some-clause-answers g c =
     rw (lives_asked c.args.words.now (live_names_of c.in-Some.names) c.in-Some.ensures.names) c.live.ensures
+
+pub returns-in-Some-clause-given : goal.returns-in-Some-clause-given
+returns-in-Some-clause-given g c = omega (arith, c.live.ensures.given)
 
 -- other words
 
